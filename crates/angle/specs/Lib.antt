@@ -1,0 +1,2 @@
+pub mod Arctan
+pub mod Angles

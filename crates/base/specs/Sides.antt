@@ -1,0 +1,24 @@
+-- The side of v0 against the great circle from v1 to v2. Document 01, "Side": "t = v0·(v1×v2). If |t| is at most 10·2^-52, inclusive, the sign of
+-- v0·(`orthogonal_to` of v1, v2) decides, and within 2^-52 of zero it is collinear. Otherwise the sign of t decides. Positive is left." Definitions only.
+use Prim.Native.Nat.{ℕ}
+use lib.Ieee.{Float, lt, le}
+use Rattle.numbers.specs.Choice.{if_then_else_}
+use Rattle.numbers.specs.F64.{zero, ten-epsilon}
+use Rattle.numbers.specs.Near.{abs, near}
+use Rattle.vec3.specs.declared.Vec3.{Vec3}
+use Rattle.vec3.specs.Vec.{dot, cross, orthogonalTo}
+use Rattle.base.specs.declared.Side.{Side}
+use Rattle.base.specs.declared.Side.the-variants.{Left, Right, Collinear}
+
+unfoldable pub signOf : Float → Side
+signOf t = if lt zero t then Left else Right
+
+unfoldable pub retestOf : Vec3 → Vec3 → Vec3 → Side
+retestOf v0 v1 v2 =
+    let s = dot v0 (orthogonalTo v1 v2) in
+    if near s zero then Collinear else signOf s
+
+unfoldable pub sideOf : Vec3 → Vec3 → Vec3 → Side
+sideOf v0 v1 v2 =
+    let t = dot v0 (cross v1 v2) in
+    if le (abs t) ten-epsilon then retestOf v0 v1 v2 else signOf t

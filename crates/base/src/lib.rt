@@ -1,0 +1,61 @@
+// The side of a position against a great circle, and the turning angle, as spherical/base.rs has them. Total on every float.
+ghost use mathlib.Core.Path.{_≡_};
+ghost use Rattle.base.specs.Sides.{signOf, retestOf, sideOf};
+ghost use Rattle.base.specs.Turns.{sineOf, turnOf};
+use angle::Angle;
+use vec3::Vec3;
+
+// Up to this size a triple product is not trusted.
+const TRIAGE_SIDE_EPS: f64 = 10.0 * numbers::EPSILON;
+
+pub enum Side {
+    Left,
+    Right,
+    Collinear,
+}
+
+fn by_sign(t: f64) -> Side
+    ensures { λ r. ⌜ r ≡ signOf t ⌝ }
+{
+    if t > 0.0 { Side::Left } else { Side::Right }
+}
+
+// The side by the stable normal. It is rare, and so a function of its own.
+fn retest(v0: Vec3, v1: Vec3, v2: Vec3) -> Side
+    ensures { λ r. ⌜ r ≡ retestOf v0 v1 v2 ⌝ }
+{
+    let s = v0.dot_prod(v1.orthogonal_to(v2));
+    if numbers::eq_zero(s) {
+        Side::Collinear
+    } else {
+        by_sign(s)
+    }
+}
+
+// Whether v0 is left of, right of or on the great circle from v1 to v2.
+pub fn side_of(v0: Vec3, v1: Vec3, v2: Vec3) -> Side
+    ensures { λ r. ⌜ r ≡ sideOf v0 v1 v2 ⌝ }
+{
+    let t = v0.dot_prod(v1.cross_prod(v2));
+    if numbers::abs(t) <= TRIAGE_SIDE_EPS {
+        retest(v0, v1, v2)
+    } else {
+        by_sign(t)
+    }
+}
+
+// The sine of the angle from v1 to v2 times their lengths: the length of their cross product, negative where that points away from vn.
+pub fn sine(v1: Vec3, v2: Vec3, vn: Vec3) -> f64
+    ensures { λ r. ⌜ r ≡ sineOf v1 v2 vn ⌝ }
+{
+    let k = v1.cross_prod(v2);
+    let norm = k.norm();
+    if k.dot_prod(vn) >= 0.0 { norm } else { -norm }
+}
+
+// The signed angle from v1 to v2, looking along vn.
+pub fn turning_angle(v1: Vec3, v2: Vec3, vn: Vec3) -> Angle
+    ensures { λ r. ⌜ r ≡ turnOf v1 v2 vn ⌝ }
+{
+    Angle::between(sine(v1, v2, vn), v1.dot_prod(v2))
+}

@@ -1,0 +1,2 @@
+pub mod Vec
+pub mod Points

@@ -1,0 +1,3 @@
+pub mod Ring
+pub mod Cuts
+pub mod Demand3

@@ -9,15 +9,8 @@ use lib.Dec.{T, ltb, eqb, ltb→lt, lt→ltb, eqb·suc-zero}
 use lib.Ieee.{Float, nan, inf, fin, binary64, ofBits, up, down, odd, units, round, neg, div, lt}
 use lib.Ieee.Fits.{up-pos, round-is}
 use Rattle.numbers.specs.F64 as F
+use Rattle.numbers.proofs.Rounds.{is-true, is-false}
 use Rattle.angle.specs.Arctan as A
-
-pub is-true : (b : Bool) → T b → b ≡ true
-is-true true t = refl
-is-true false t = absurd t
-
-pub is-false : (b : Bool) → (T b → ⊥) → b ≡ false
-is-false true f = absurd (f tt)
-is-false false f = refl
 
 round-not-below : (num den : ℕ) → lt (round binary64 false num den) F.zero ≡ false
 round-not-below num den = ap (λ (z : Float). lt z F.zero) (round-is binary64 false num den) ∙ units-not-below _ _

@@ -1,37 +1,17 @@
 -- `atan2` at zeros, as IEEE 754 has it: document 01, "with the IEEE results at zeros". Assumes nothing.
 use mathlib.Core.Path.{_≡_, refl, sym, ap, _∙_, subst}
 use mathlib.Core.Bool.{Bool, true, false, not, cond, _&&_}
-use Prim.Native.Nat.{ℕ, zero, suc, _+_, _-_, _*_, _/_, _%_, _^_, _≤_, _<_, compare, Ordering, Ordering·lt, compare·zero-suc}
-use native.Mathlib.Nat.{zero-mul, zero-div, zero-mod, mul-pos, zero-lt-suc, lt-irrefl}
+use Prim.Native.Nat.{ℕ, zero, suc, _+_, _*_, _<_}
+use native.Mathlib.Nat.{zero-mul, mul-pos, zero-lt-suc}
 use native.Mathlib.Omega.{arith}
 use lib.IntN.{ℤ, pos, negsuc}
 use lib.Dec.{T, ltb, eqb, ltb→lt, lt→ltb, eqb-refl}
-use lib.Pow.{pow-pos}
-use lib.Ieee.{Float, nan, inf, fin, binary64, ofBits, up, down, size, nearest, odd, units, round, neg, add, sub, mul, div, lt, eq}
-use lib.Ieee.Fits.{down-pos, up-pos, round-is, core}
+use lib.Ieee.{Float, fin, binary64, ofBits, up, down, neg, add, sub, mul, div, lt, eq}
+use lib.Ieee.Fits.{down-pos, up-pos}
 use Rattle.angle.specs.Arctan as A
 use Rattle.numbers.specs.F64 as F
-use Rattle.angle.proofs.Signs.{div-is, atan2-is, is-true, is-false}
-
-above : (u : ℕ) → 0 < u → compare 0 u ≡ Ordering·lt
-above zero h = absurd (lt-irrefl 0 h)
-above (suc u) h = compare·zero-suc u
-
-units-zero : (k : ℕ) → units binary64 false 0 k ≡ fin false 0 (pos 0)
-unfolding units odd
-units-zero k = ap (λ (b : Bool). cond b (fin false 0 (pos 0)) (inf false)) (is-true (ltb (0 * 2 ^ k) (2 ^ 2098)) (lt→ltb (0 * 2 ^ k) (2 ^ 2098) (subst (λ (z : ℕ). z < 2 ^ 2098) (sym (zero-mul (2 ^ k))) (pow-pos 2098))))
-
-core-zero : (den k : ℕ) → 0 < den → core binary64 false 0 den k ≡ fin false 0 (pos 0)
-core-zero den k D =
-    let u = den * 2 ^ k in
-    ap (λ (z : ℕ). units binary64 false (nearest z (compare (0 % u * 2) u)) k) (zero-div u)
-    ∙ ap (λ (z : ℕ). units binary64 false (nearest 0 (compare (z * 2) u)) k) (zero-mod u)
-    ∙ ap (λ (o : Ordering). units binary64 false (nearest 0 o) k) (above u (mul-pos D (pow-pos k)))
-    ∙ units-zero k
-
-round-zero : (num den : ℕ) → 0 < den → num ≡ 0 → round binary64 false num den ≡ fin false 0 (pos 0)
-round-zero num den D e =
-    ap (λ (z : ℕ). round binary64 false z den) e ∙ round-is binary64 false 0 den ∙ core-zero den (size (0 * 2 ^ 1074 / den) - 53) D
+use Rattle.numbers.proofs.Rounds.{round-zero, is-true, is-false}
+use Rattle.angle.proofs.Signs.{div-is, atan2-is}
 
 product : (u v : ℕ) → 0 * u * v ≡ 0
 product u v = ap (λ (z : ℕ). z * v) (zero-mul u) ∙ zero-mul v

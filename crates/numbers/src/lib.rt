@@ -2,6 +2,7 @@
 ghost use mathlib.Core.Path.{_≡_};
 ghost use Rattle.numbers.specs.Near as N;
 ghost use Rattle.numbers.specs.F64.{zero};
+ghost use Rattle.numbers.specs.Finite.{finite};
 
 // The difference between 1.0 and the next float: 2^-52.
 pub const EPSILON: f64 = 0.0000000000000002220446049250313080847263336181640625;
@@ -39,4 +40,11 @@ pub fn gte(left: f64, right: f64) -> bool
     ensures { λ r. ⌜ r ≡ N.atLeast left right ⌝ }
 {
     left >= right || eq(left, right)
+}
+
+// Whether x is neither NaN nor infinite: the difference from itself is then 0.0, and only then.
+pub fn is_finite(x: f64) -> bool
+    ensures { λ r. ⌜ r ≡ finite x ⌝ }
+{
+    x - x == 0.0
 }

@@ -1,0 +1,41 @@
+-- Refusals 3 and 4, as numbers, 0 for none. Document 01: 3 "a component is NaN or infinite", 4 "a position's squared norm is outside the range",
+-- "from 1-2^-40 to 1+2^-40, ends included"; "positions go one by one, 3 before 4". Definitions only.
+use Prim.Native.Nat.{ℕ}
+use mathlib.Core.Bool.{Bool, _&&_}
+use mathlib.Core.List.{List}
+use lib.Ieee.{Float, binary64, ofBits, le}
+use Rattle.numbers.specs.Choice.{if_then_else_}
+use Rattle.numbers.specs.Finite.{finite}
+use Rattle.vec3.specs.declared.Vec3.{Vec3}
+use Rattle.vec3.specs.Vec.{dot, posAt}
+use Rattle.laws.specs.Loop.{firstOf}
+
+abbrev pub finiteVec : Vec3 → Bool
+finiteVec v = (finite (v .x) && finite (v .y)) && finite (v .z)
+
+-- the squared norm as the rounded float sum, against 1 - 2^-40 and 1 + 2^-40
+abbrev pub inRange : Float → Bool
+inRange d = le (ofBits binary64 0x3fef_ffff_ffff_e000) d && le d (ofBits binary64 0x3ff0_0000_0000_1000)
+
+abbrev pub withinRange : Vec3 → Bool
+withinRange p = inRange (dot p p)
+
+-- what a vector gives that is finite, else 3
+unfoldable pub vectorFault : Vec3 → ℕ → ℕ
+vectorFault v k = if finiteVec v then k else 3
+
+unfoldable pub faultOf : Vec3 → ℕ
+faultOf p = vectorFault p (if withinRange p then 0 else 4)
+
+-- the first of n positions, or of n normals, that has one
+abbrev pub positionFault : List Float → ℕ → ℕ
+positionFault l i = faultOf (posAt l i)
+
+abbrev pub normalFault : List Float → ℕ → ℕ
+normalFault l i = vectorFault (posAt l i) 0
+
+abbrev pub positionsFault : List Float → ℕ → ℕ
+positionsFault l n = firstOf (positionFault l) n 0
+
+abbrev pub vectorsFault : List Float → ℕ → ℕ
+vectorsFault l n = firstOf (normalFault l) n 0

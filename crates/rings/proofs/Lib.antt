@@ -1,4 +1,5 @@
 pub mod Withouts
+pub mod Begun
 pub mod Rounds
 pub mod Sides
 pub mod Crossings
@@ -6,3 +7,5 @@ pub mod Steps
 pub mod Places
 pub mod Threes
 pub mod Theorem
+pub mod Flips
+pub mod Examples

@@ -1,5 +1,4 @@
 pub mod Withouts
-pub mod Begun
 pub mod Rounds
 pub mod Sides
 pub mod Crossings
@@ -7,5 +6,6 @@ pub mod Steps
 pub mod Places
 pub mod Threes
 pub mod Theorem
+pub mod Begun
 pub mod Flips
 pub mod Examples

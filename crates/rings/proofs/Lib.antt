@@ -1,1 +1,11 @@
 pub mod Withouts
+pub mod Rounds
+pub mod Sides
+pub mod Crossings
+pub mod Steps
+pub mod Places
+pub mod Threes
+pub mod Theorem
+pub mod Begun
+pub mod Flips
+pub mod Examples

@@ -1,5 +1,5 @@
 -- What demand 3 says of the sides of an accepted list of triples. Definitions only.
-use Prim.Native.Nat.{ℕ, zero, suc, _+_, _-_, _*_, _%_, _<_}
+use Prim.Native.Nat.{ℕ, _+_, _-_, _*_, _%_, _<_}
 use mathlib.Core.Path.{_≡_}
 use mathlib.Core.Bool.{_&&_, cond}
 use mathlib.Core.List.{List, [], _∷_}
@@ -13,17 +13,14 @@ same u v a b = cond (eqb u a && eqb v b) 1 0
 
 -- how often the triple (a, b, c), whose sides are a to b, b to c and c to a, runs from u to v
 unfoldable pub passes : ℕ → ℕ → ℕ → ℕ → ℕ → ℕ
-unfolding same
 passes u v a b c = same u v a b + same u v b c + same u v c a
 
 -- 1 if the side {u, v} lies in the triple, run one way or the other, else 0
 unfoldable pub lies : ℕ → ℕ → ℕ → ℕ → ℕ → ℕ
-unfolding passes
 lies u v a b c = cond (eqb (passes u v a b c + passes v u a b c) 0) 0 1
 
 -- how often a flat list of triples runs from u to v
 unfoldable pub runs : ℕ → ℕ → List ℕ → ℕ
-unfolding passes
 runs u v [] = 0
 runs u v (a ∷ []) = 0
 runs u v (a ∷ b ∷ []) = 0
@@ -31,7 +28,6 @@ runs u v (a ∷ b ∷ c ∷ rest) = passes u v a b c + runs u v rest
 
 -- in how many of its triples the side {u, v} lies
 unfoldable pub holders : ℕ → ℕ → List ℕ → ℕ
-unfolding lies
 holders u v [] = 0
 holders u v (a ∷ []) = 0
 holders u v (a ∷ b ∷ []) = 0

@@ -1,0 +1,11 @@
+use Rattle.minor_arc.specs.Arcs.{considered}
+use Rattle.minor_arc.proofs.MinorArc.consider.Statement.{statement}
+use Rattle.minor_arc.proofs.MinorArc.consider.Tie as tie
+
+pub consider-spec : {M : Type 1} → statement M
+unfolding considered
+consider-spec =
+    tie.close
+    (tie.spec (λ c κs. tt) (λ c κs. tt) (λ c κs. tt)
+    (λ c. simp (← c .before .before .before .location .ensures, ← c .before .before .is-within .ensures, c .before .if1 .taken) (c .push .ensures))
+    (λ c. simp (← c .before .before .location .ensures, ← c .before .is-within .ensures, c .if1 .left)))

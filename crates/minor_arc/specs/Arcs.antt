@@ -1,0 +1,119 @@
+-- Minor arcs: where a point of an arc's great circle lies, where two arcs meet, and how they relate. Definitions only.
+use mathlib.Core.Bool.{Bool, true, false, _&&_}
+use lib.Ieee.{Float, lt, le}
+use Rattle.numbers.specs.Choice.{if_then_else_}
+use Rattle.numbers.specs.F64.{zero}
+use Rattle.numbers.specs.Near.{near}
+use Rattle.vec3.specs.declared.Vec3.{Vec3}
+use Rattle.vec3.specs.declared.Point.{Point}
+use Rattle.vec3.specs.declared.Point.the-variants.{Absent, At}
+use Rattle.vec3.specs.Vec.{origin, same, dot, opposite, stableUnit, orthogonalTo}
+use Rattle.base.specs.declared.Side.{Side}
+use Rattle.base.specs.declared.Side.the-variants.{Left, Right, Collinear}
+use Rattle.base.specs.Sides.{sideOf}
+use Rattle.minor_arc.specs.declared.MinorArc.{MinorArc}
+use Rattle.minor_arc.specs.declared.Location.{Location}
+use Rattle.minor_arc.specs.declared.Location.the-variants.{Endpoint, Interior, Exterior}
+use Rattle.minor_arc.specs.declared.MinorArcRelation.{MinorArcRelation}
+use Rattle.minor_arc.specs.declared.MinorArcRelation.the-variants.{Disjoint, Intersecting, Touching, Overlapping}
+use Rattle.minor_arc.specs.declared.Meeting.{Meeting}
+use Rattle.minor_arc.specs.declared.Meeting.the-variants as M
+use Rattle.minor_arc.specs.declared.Found.{Found}
+use Rattle.minor_arc.specs.declared.Found.the-variants.{None, One, Two}
+
+abbrev pub arcOf : Vec3 → Vec3 → MinorArc
+arcOf a b = record { start = a; end = b; normal = orthogonalTo a b }
+
+abbrev pub reversed : MinorArc → MinorArc
+reversed a = record { start = a .end; end = a .start; normal = opposite (a .normal) }
+
+-- by the sign of the product with the normal; a NaN product is left
+unfoldable pub arcSide : MinorArc → Vec3 → Side
+arcSide a p =
+    let d = dot p (a .normal) in
+    if near d zero then Collinear else if lt d zero then Right else Left
+
+-- by the sides of a point against (normal, start) and (normal, end)
+abbrev pub placed : Side → Side → Location
+placed Right e = Exterior
+placed Left Left = Exterior
+placed Left Right = Interior
+placed Left Collinear = Endpoint
+placed Collinear Left = Exterior
+placed Collinear Right = Endpoint
+placed Collinear Collinear = Endpoint
+
+unfoldable pub locationOf : MinorArc → Vec3 → Location
+locationOf a v = placed (sideOf v (a .normal) (a .start)) (sideOf v (a .normal) (a .end))
+
+abbrev pub within : Location → Bool
+within Endpoint = true
+within Interior = true
+within Exterior = false
+
+unfoldable pub onArc : MinorArc → Vec3 → Bool
+onArc a p = near (dot p (a .normal)) zero && within (locationOf a p)
+
+-- document 01, "Arcs meeting": of a point and its opposite "the one on the side of this arc's start is the only candidate"
+unfoldable pub nearer : Vec3 → Vec3 → Vec3
+nearer s i = if lt zero (dot s i) then i else opposite i
+
+-- what two arcs have in p, by where it lies on each
+abbrev pub meetAt : Vec3 → Location → Location → Meeting
+meetAt p Exterior b = M.Apart
+meetAt p Endpoint Exterior = M.Apart
+meetAt p Endpoint Endpoint = M.Touching p
+meetAt p Endpoint Interior = M.Touching p
+meetAt p Interior Exterior = M.Apart
+meetAt p Interior Endpoint = M.Touching p
+meetAt p Interior Interior = M.Crossing p
+
+unfoldable pub meetingIn : MinorArc → MinorArc → Vec3 → Meeting
+meetingIn a b p = meetAt p (locationOf a p) (locationOf b p)
+
+-- "the two great circles meet in a point and its opposite", unless the unit vector of the normals' product is exactly zero
+unfoldable pub meetingOf : MinorArc → MinorArc → Meeting
+meetingOf a b =
+    let i = stableUnit (a .normal) (b .normal) in
+    if same i origin then M.Collinear else meetingIn a b (nearer (a .start) i)
+
+-- what `intersection` makes of it: none for collinear arcs
+abbrev pub meetingPoint : Meeting → Point
+meetingPoint M.Apart = Absent
+meetingPoint M.Collinear = Absent
+meetingPoint (M.Crossing p) = At p
+meetingPoint (M.Touching p) = At p
+
+-- at most two different points, the first two that come
+unfoldable pub pushed : Found → Vec3 → Found
+pushed None v = One v
+pushed (One p) v = if same p v then One p else Two p v
+pushed (Two p q) v = Two p q
+
+unfoldable pub considered : Found → MinorArc → Vec3 → Found
+considered f a v = if within (locationOf a v) then pushed f v else f
+
+-- from p to q or from q to p, in the direction of a: the larger product with its start comes first
+unfoldable pub spanOf : MinorArc → Vec3 → Vec3 → MinorArc
+spanOf a p q =
+    if le (dot q (a .start)) (dot p (a .start))
+    then (record { start = p; end = q; normal = a .normal })
+    else (record { start = q; end = p; normal = a .normal })
+
+abbrev pub shared : MinorArc → Found → MinorArcRelation
+shared a None = Disjoint
+shared a (One p) = Touching p
+shared a (Two p q) = Overlapping (spanOf a p q)
+
+-- of the four ends those that are on the other arc: b's start, b's end, a's start, a's end
+unfoldable pub collinearOf : MinorArc → MinorArc → MinorArcRelation
+collinearOf a b = shared a (considered (considered (considered (considered None a (b .start)) a (b .end)) b (a .start)) b (a .end))
+
+abbrev pub settled : MinorArcRelation → Meeting → MinorArcRelation
+settled r M.Apart = Disjoint
+settled r M.Collinear = r
+settled r (M.Crossing p) = Intersecting p
+settled r (M.Touching p) = Touching p
+
+unfoldable pub relationOf : MinorArc → MinorArc → MinorArcRelation
+relationOf a b = settled (collinearOf a b) (meetingOf a b)

@@ -1,0 +1,277 @@
+// Minor arcs, as spherical/minor_arc.rs has them: two positions and a normal, by value. Total on every float: a NaN fails each comparison.
+// The functions of `checked` judge what they are handed; those here do not, and are what loops call.
+ghost use mathlib.Core.Path.{_≡_};
+ghost use Rattle.base.specs.Turns.{turnOf};
+ghost use Rattle.minor_arc.specs.Arcs as Arcs;
+use angle::Angle;
+use base::Side;
+use vec3::Point;
+use vec3::Vec3;
+
+pub struct MinorArc {
+    pub start: Vec3,
+    pub end: Vec3,
+    pub normal: Vec3,
+}
+
+// How two arcs relate.
+pub enum MinorArcRelation {
+    Disjoint,
+    Intersecting(Vec3),
+    Touching(Vec3),
+    Overlapping(MinorArc),
+}
+
+// Where a point of an arc's great circle lies.
+pub enum Location {
+    Endpoint,
+    Interior,
+    Exterior,
+}
+
+// Where two arcs meet. Collinear ones, whose great circles are one, are left to `relate_collinear`.
+pub enum Meeting {
+    Apart,
+    Collinear,
+    Crossing(Vec3),
+    Touching(Vec3),
+}
+
+// At most two different points.
+pub enum Found {
+    None,
+    One(Vec3),
+    Two(Vec3, Vec3),
+}
+
+// By the sides of a point against (normal, start) and (normal, end).
+fn place(s: Side, e: Side) -> Location
+    ensures { λ r. ⌜ r ≡ Arcs.placed s e ⌝ }
+{
+    match s {
+        Side::Right => Location::Exterior,
+        Side::Left => match e {
+            Side::Left => Location::Exterior,
+            Side::Right => Location::Interior,
+            Side::Collinear => Location::Endpoint,
+        },
+        Side::Collinear => match e {
+            Side::Left => Location::Exterior,
+            Side::Right => Location::Endpoint,
+            Side::Collinear => Location::Endpoint,
+        },
+    }
+}
+
+fn is_within(l: Location) -> bool
+    ensures { λ r. ⌜ r ≡ Arcs.within l ⌝ }
+{
+    match l {
+        Location::Exterior => false,
+        Location::Endpoint => true,
+        Location::Interior => true,
+    }
+}
+
+// Of i and its opposite the one on the side of s: the opposite where the product is not above 0.
+fn nearer(s: Vec3, i: Vec3) -> Vec3
+    ensures { λ r. ⌜ r ≡ Arcs.nearer s i ⌝ }
+{
+    if s.dot_prod(i) > 0.0 { i } else { i.neg() }
+}
+
+// What two arcs have in p, by where it lies on each.
+fn meet_at(p: Vec3, a: Location, b: Location) -> Meeting
+    ensures { λ r. ⌜ r ≡ Arcs.meetAt p a b ⌝ }
+{
+    match a {
+        Location::Exterior => Meeting::Apart,
+        Location::Endpoint => match b {
+            Location::Exterior => Meeting::Apart,
+            Location::Endpoint => Meeting::Touching(p),
+            Location::Interior => Meeting::Touching(p),
+        },
+        Location::Interior => match b {
+            Location::Exterior => Meeting::Apart,
+            Location::Endpoint => Meeting::Touching(p),
+            Location::Interior => Meeting::Crossing(p),
+        },
+    }
+}
+
+// One candidate more: the first two that differ are kept.
+fn push(f: Found, v: Vec3) -> Found
+    ensures { λ r. ⌜ r ≡ Arcs.pushed f v ⌝ }
+{
+    match f {
+        Found::None => Found::One(v),
+        Found::One(p) => if p.equals(v) {
+            Found::One(p)
+        } else {
+            Found::Two(p, v)
+        },
+        Found::Two(p, q) => Found::Two(p, q),
+    }
+}
+
+impl MinorArc {
+    // The shorter arc from start to end; where the two are equal or antipodes, one of many.
+    pub fn new(start: Vec3, end: Vec3) -> MinorArc
+        ensures { λ r. ⌜ r ≡ Arcs.arcOf start end ⌝ }
+    {
+        MinorArc {
+            start,
+            end,
+            normal: start.orthogonal_to(end),
+        }
+    }
+
+    // The arc walked from its end to its start: the normal is negated, not worked out again.
+    pub fn opposite(self) -> MinorArc
+        ensures { λ r. ⌜ r ≡ Arcs.reversed self ⌝ }
+    {
+        let a = self.end;
+        let b = self.start;
+        MinorArc {
+            start: a,
+            end: b,
+            normal: self.normal.neg(),
+        }
+    }
+
+    // The side of p against this arc. The source's -1 is right; its 1 is left, and what a NaN product gives too.
+    pub fn side_of(self, p: Vec3) -> Side
+        ensures { λ r. ⌜ r ≡ Arcs.arcSide self p ⌝ }
+    {
+        let d = p.dot_prod(self.normal);
+        if numbers::eq_zero(d) {
+            return Side::Collinear;
+        }
+        if d < 0.0 { Side::Right } else { Side::Left }
+    }
+
+    // The angle turned from this arc to the next, which starts where this one ends.
+    pub fn turn(self, o: MinorArc) -> Angle
+        ensures { λ r. ⌜ r ≡ turnOf (self .normal) (o .normal) (self .end) ⌝ }
+    {
+        base::turning_angle(self.normal, o.normal, self.end)
+    }
+
+    // Where a point of this arc's great circle lies: the source's `triage_on_minor_arc`.
+    fn location(self, v: Vec3) -> Location
+        ensures { λ r. ⌜ r ≡ Arcs.locationOf self v ⌝ }
+    {
+        let s = base::side_of(v, self.normal, self.start);
+        if let Side::Right = s {
+            return Location::Exterior;
+        }
+        place(s, base::side_of(v, self.normal, self.end))
+    }
+
+    // Whether p is on this arc, its ends included.
+    pub fn contains_position(self, p: Vec3) -> bool
+        ensures { λ r. ⌜ r ≡ Arcs.onArc self p ⌝ }
+    {
+        if numbers::eq_zero(p.dot_prod(self.normal)) {
+            is_within(self.location(p))
+        } else {
+            false
+        }
+    }
+
+    fn meeting_in(self, o: MinorArc, p: Vec3) -> Meeting
+        ensures { λ r. ⌜ r ≡ Arcs.meetingIn self o p ⌝ }
+    {
+        let a = self.location(p);
+        if let Location::Exterior = a {
+            return Meeting::Apart;
+        }
+        meet_at(p, a, o.location(p))
+    }
+
+    // The source's `intersection_details`. The great circles meet in a point and its opposite; the one on the side of this arc's start is the only candidate.
+    pub fn meeting(self, o: MinorArc) -> Meeting
+        ensures { λ r. ⌜ r ≡ Arcs.meetingOf self o ⌝ }
+    {
+        let i = self.normal.stable_cross_prod_unit(o.normal);
+        if i.equals(Vec3::ZERO) {
+            Meeting::Collinear
+        } else {
+            self.meeting_in(o, nearer(self.start, i))
+        }
+    }
+
+    // The point in which the two arcs meet; none where they are collinear.
+    pub fn intersection(self, o: MinorArc) -> Point
+        ensures { λ r. ⌜ r ≡ Arcs.meetingPoint (Arcs.meetingOf self o) ⌝ }
+    {
+        match self.meeting(o) {
+            Meeting::Apart => Point::Absent,
+            Meeting::Collinear => Point::Absent,
+            Meeting::Crossing(p) => Point::At(p),
+            Meeting::Touching(p) => Point::At(p),
+        }
+    }
+
+    // The candidate v, if it is on this arc.
+    fn consider(self, f: Found, v: Vec3) -> Found
+        ensures { λ r. ⌜ r ≡ Arcs.considered f self v ⌝ }
+    {
+        if is_within(self.location(v)) {
+            push(f, v)
+        } else {
+            f
+        }
+    }
+
+    // The arc between p and q in this arc's direction, with this arc's normal.
+    fn span(self, p: Vec3, q: Vec3) -> MinorArc
+        ensures { λ r. ⌜ r ≡ Arcs.spanOf self p q ⌝ }
+    {
+        let n = self.normal;
+        if p.dot_prod(self.start) >= q.dot_prod(self.start) {
+            MinorArc {
+                start: p,
+                end: q,
+                normal: n,
+            }
+        } else {
+            MinorArc {
+                start: q,
+                end: p,
+                normal: n,
+            }
+        }
+    }
+
+    fn shared(self, f: Found) -> MinorArcRelation
+        ensures { λ r. ⌜ r ≡ Arcs.shared self f ⌝ }
+    {
+        match f {
+            Found::None => MinorArcRelation::Disjoint,
+            Found::One(p) => MinorArcRelation::Touching(p),
+            Found::Two(p, q) => MinorArcRelation::Overlapping(self.span(p, q)),
+        }
+    }
+
+    // Each end of what two arcs of one great circle share is one of their four ends.
+    fn relate_collinear(self, o: MinorArc) -> MinorArcRelation
+        ensures { λ r. ⌜ r ≡ Arcs.collinearOf self o ⌝ }
+    {
+        let f = self.consider(Found::None, o.start);
+        let g = self.consider(f, o.end);
+        let h = o.consider(g, self.start);
+        self.shared(o.consider(h, self.end))
+    }
+
+    pub fn relate(self, o: MinorArc) -> MinorArcRelation
+        ensures { λ r. ⌜ r ≡ Arcs.relationOf self o ⌝ }
+    {
+        match self.meeting(o) {
+            Meeting::Apart => MinorArcRelation::Disjoint,
+            Meeting::Collinear => self.relate_collinear(o),
+            Meeting::Crossing(p) => MinorArcRelation::Intersecting(p),
+            Meeting::Touching(p) => MinorArcRelation::Touching(p),
+        }
+    }
+}

@@ -1,0 +1,10 @@
+use borrow.Author.Needs.{needs}
+use Rattle.wire.proofs.float_at.Statement.{statement}
+use Rattle.wire.proofs.float_at.Tie as tie
+
+pub float-at-spec : {M : Type 1} → statement M
+float-at-spec =
+    tie.close
+    (tie.spec
+    (λ c κs. search needs) (λ c κs. search needs)
+    (λ c. simp (c .of-bits .ensures, c .before .u64-at .ensures)))

@@ -1,4 +1,4 @@
-// Ears of a ring: eligible ears, one cut, cutting all, as sloop.rs has them. A ring is lent as its positions and classes (0 convex, 1 reflex, 2 both);
+// Ears of a ring: eligible ears and one cut, as sloop.rs has them. A ring is lent as its positions and classes (0 convex, 1 reflex, 2 both);
 // what is left of it is a list of ring numbers, and the classes by ring number. Total on every float.
 ghost use mathlib.Core.Path.{_≡_};
 ghost use mathlib.Core.List.{_++_};
@@ -86,14 +86,14 @@ pub fn inside_or_edge(p: Vec3, a: Vec3, b: Vec3, c: Vec3) -> bool
 }
 
 // The places before and after place i of m, counted round.
-fn prior(m: usize, i: usize) -> usize
+pub fn prior(m: usize, i: usize) -> usize
     requires { ⌜ (i < m) × (m ≤ 512) ⌝ }
     ensures { λ r. ⌜ (r ≡ (i + m - 1) % m) × (r < m) ⌝ }
 {
     (i + m - 1) % m
 }
 
-fn later(m: usize, i: usize) -> usize
+pub fn later(m: usize, i: usize) -> usize
     requires { ⌜ (i < m) × (m ≤ 512) ⌝ }
     ensures { λ r. ⌜ (r ≡ (i + 1) % m) × (r < m) ⌝ }
 {
@@ -115,7 +115,7 @@ fn is_convex(ids: &[u16], classes: &[u8], i: usize) -> bool
     classes[ids[i] as usize] == 0
 }
 
-fn triangle_at(ps: &[f64], ids: &[u16], i: usize) -> Triangle
+pub fn triangle_at(ps: &[f64], ids: &[u16], i: usize) -> Triangle
     requires { ⌜ Placed (now ps) (now ids) × (i < length (now ids)) × (length (now ids) ≤ 512) ⌝ }
     ensures { λ r. ⌜ r ≡ triangleAt (now (ps .entry)) (now (ids .entry)) i ⌝ }
 {
@@ -154,7 +154,7 @@ fn is_blocked(ps: &[f64], ids: &[u16], classes: &[u8], t: Triangle) -> bool
 }
 
 // Whether place i is an eligible ear.
-fn is_ear(ps: &[f64], ids: &[u16], classes: &[u8], i: usize) -> bool
+pub fn is_ear(ps: &[f64], ids: &[u16], classes: &[u8], i: usize) -> bool
     requires { ⌜ Lent (now ps) (now ids) (now classes) × (i < length (now ids)) ⌝ }
     ensures { λ r. ⌜ r ≡ ear (now (ps .entry)) (now (ids .entry)) (now (classes .entry)) i ⌝ }
 {
@@ -165,7 +165,7 @@ fn is_ear(ps: &[f64], ids: &[u16], classes: &[u8], i: usize) -> bool
 }
 
 // The lowest eligible ear; the number of places if there is none.
-fn lowest_ear(ps: &[f64], ids: &[u16], classes: &[u8]) -> usize
+pub fn lowest_ear(ps: &[f64], ids: &[u16], classes: &[u8]) -> usize
     requires { ⌜ Lent (now ps) (now ids) (now classes) ⌝ }
     ensures { λ r. ⌜ r ≡ lowest (now (ps .entry)) (now (ids .entry)) (now (classes .entry)) ⌝ }
 {
@@ -229,7 +229,7 @@ fn reclassify_both(ps: &[f64], ids: &[u16], classes: &mut [u8], i: usize)
 }
 
 // Cuts the corner at place i off: its number goes, and the last place keeps its own.
-fn cut_one(ps: &[f64], ids: &mut [u16], classes: &mut [u8], i: usize)
+pub fn cut_one(ps: &[f64], ids: &mut [u16], classes: &mut [u8], i: usize)
     requires { ⌜ Lent (now ps) (now ids) (now classes) × (i < length (now ids)) ⌝ }
     ensures { λ _. ⌜ record { ids = now (ids .exit); classes = now (classes .exit) } ≡ cutIn (now (ps .entry)) (record { ids = now (ids .entry); classes = now (classes .entry) }) i ⌝ }
 {

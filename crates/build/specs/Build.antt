@@ -122,27 +122,36 @@ madeIf false l n reversed ps ns cs = ringMade l n reversed ps ns cs
 unfoldable pub made : List Float → ℕ → List Float → List Float → List ℕ → Made
 made l n ps ns cs = madeIf (allBoth (classesOf l n (reversal l n))) l n (reversal l n) ps ns cs
 
+-- the answer by cases: the refusal's number of the paper, or the header's values
+pub data Told : Type 0 where
+  refused : ℕ → Told
+  loop : Header → Told
+
+abbrev pub told : Built → Told
+told (Refused k) = refused k
+told (Loop h) = loop h
+
 -- what a call comes to: its answer and the three slices
 pub record Out : Type 0 where
-  pub answer : Built
+  pub answer : Told
   pub positions : List Float
   pub normals : List Float
   pub classes : List ℕ
 
-abbrev pub kept : Built → List Float → List Float → List ℕ → Out
+abbrev pub kept : Told → List Float → List Float → List ℕ → Out
 kept a ps ns cs = record { answer = a; positions = ps; normals = ns; classes = cs }
 
 abbrev pub outOf : Made → Out
-outOf m = record { answer = Loop (m .header); positions = m .positions; normals = m .normals; classes = m .classes }
+outOf m = record { answer = loop (m .header); positions = m .positions; normals = m .normals; classes = m .classes }
 
 -- "Fewer than three left: EMPTY"
 abbrev pub outIf : Bool → List Float → ℕ → List Float → List Float → List ℕ → Out
-outIf true l n ps ns cs = kept (Loop emptyHeader) ps ns cs
+outIf true l n ps ns cs = kept (loop emptyHeader) ps ns cs
 outIf false l n ps ns cs = outOf (made l n ps ns cs)
 
 -- by the refusal's number
 abbrev pub outBy : ℕ → List Float → List Float → List Float → List ℕ → Out
-outBy (suc k) l ps ns cs = kept (Refused (suc k)) ps ns cs
+outBy (suc k) l ps ns cs = kept (refused (suc k)) ps ns cs
 outBy zero l ps ns cs = outIf (ltb (openedCount l) 3) l (openedCount l) ps ns cs
 
 unfoldable pub out : List Float → List Float → List Float → List ℕ → Out

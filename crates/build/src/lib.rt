@@ -137,7 +137,7 @@ fn make(
 
 // Builds a loop. The work arrays hold what must not be written before FULL is ruled out.
 pub fn build(list: &[f64], positions: &mut [f64], normals: &mut [f64], classes: &mut [u8]) -> Built
-    ensures { λ r. ⌜ record { answer = r; positions = now (positions .exit); normals = now (normals .exit); classes = now (classes .exit) } ≡ B.out (now (list .entry)) (now (positions .entry)) (now (normals .entry)) (now (classes .entry)) ⌝ }
+    ensures { λ r. ⌜ record { answer = B.told r; positions = now (positions .exit); normals = now (normals .exit); classes = now (classes .exit) } ≡ B.out (now (list .entry)) (now (positions .entry)) (now (normals .entry)) (now (classes .entry)) ⌝ }
 {
     let f = refusal_of(list, positions, normals, classes);
     if f != 0 {

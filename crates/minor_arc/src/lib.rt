@@ -8,6 +8,8 @@ use base::Side;
 use vec3::Point;
 use vec3::Vec3;
 
+pub mod checked;
+
 pub struct MinorArc {
     pub start: Vec3,
     pub end: Vec3,

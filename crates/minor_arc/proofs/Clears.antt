@@ -1,0 +1,115 @@
+-- 0.0 + x is x for every x of the format but -0.0, and so an arc is the opposite of its opposite. Assumes nothing.
+use mathlib.Core.Path.{_≡_, refl, sym, ap, _∙_, subst}
+use mathlib.Core.Bool.{Bool, true, false, not, cond, _&&_}
+use Prim.Native.Nat.{ℕ, zero, suc, _+_, _-_, _*_, _/_, _%_, _^_, _≤_, _<_}
+use native.Mathlib.Nat.{zero-mul, mul-one, one-mul, mul-assoc, mul-right-comm, mul-div-cancel, mul-pos, add-comm, add-sub-of-le, lt-of-not-le, not-le-of-lt, zero-lt-suc, le-of-suc-le-suc}
+use native.Mathlib.Omega.{arith}
+use lib.IntN.{ℤ, pos, negsuc}
+use lib.Dec.{T, ltb, leb, eqb, ltb→lt, leb→le, lt→ltb}
+use lib.Pow.{pow-add, pow-pos, pow-lt}
+use lib.Ieee.{Float, nan, inf, fin, binary64, ofBits, up, down, fits, round, neg, add, sum}
+use lib.Ieee.Exact.{HasValue, round-exact}
+use lib.Ieee.Fits.{down-pos, up-pos, round-fits, and-l, and-r}
+use lib.Ieee.Nearest.{div-same}
+use Rattle.root.specs.Root.{inUnits}
+use Rattle.root.proofs.Units.{same-units, shape}
+use Rattle.numbers.proofs.Rounds.{is-true}
+use Rattle.numbers.specs.F64 as F
+use Rattle.minor_arc.specs.declared.MinorArc.{MinorArc}
+use Rattle.minor_arc.specs.Arcs.{Plain, PlainVec, reversed}
+
+-- ---- what fits is rounded to itself
+fits-either : (s t : Bool) (m : ℕ) (e : ℤ) → T (fits binary64 (fin s m e)) → T (fits binary64 (fin t m e))
+unfolding fits
+fits-either s t zero e h = h
+fits-either s t (suc m) e h = h
+
+signs : (s : Bool) {m n : ℕ} {e d : ℤ} → fin false m e ≡ fin false n d → fin s m e ≡ fin s n d
+unfolding neg
+signs false h = h
+signs true h = ap neg h
+
+same-value : (r : Float) (s : Bool) (m : ℕ) (e : ℤ) → T (fits binary64 r) → T (fits binary64 (fin s m e)) → HasValue r s (m * up e) (down e) → r ≡ fin s m e
+same-value nan s m e p q v = absurd v
+same-value (inf t) s m e p q v = absurd v
+same-value (fin t n d) s m e p q v =
+    let h : n * up d * 2 ^ 1074 * down e ≡ m * up e * 2 ^ 1074 * down d = mul-right-comm (n * up d) (2 ^ 1074) (down e) ∙ ap (λ (z : ℕ). z * 2 ^ 1074) (v .1) ∙ mul-right-comm (m * up e) (down d) (2 ^ 1074) in
+    let u = div-same (n * up d * 2 ^ 1074) (down d) (m * up e * 2 ^ 1074) (down e) (down-pos d) (down-pos e) h in
+    ap (λ (b : Bool). fin b n d) (v .0) ∙ signs s (same-units n m d e (fits-either t false n d p) (fits-either s false m e q) u)
+
+exponent-le : (a b : ℕ) → 2 ^ a ≤ 2 ^ b → a ≤ b
+exponent-le a b h = le-of-suc-le-suc (lt-of-not-le (λ (g : suc b ≤ a). not-le-of-lt (pow-lt g) h))
+
+in-units : (m : ℕ) (e : ℤ) → down e ≤ 2 ^ 1074 → (c : ℕ) × (m * up e * 2 ^ 1074 ≡ m * 2 ^ c * down e)
+in-units m (pos k) h = (k + 1074, mul-assoc m (2 ^ k) (2 ^ 1074) ∙ ap (λ (z : ℕ). m * z) (sym (pow-add 2 k 1074)) ∙ sym (mul-one (m * 2 ^ (k + 1074))))
+in-units m (negsuc k) h = (
+  1074 - suc k,
+  ap (λ (z : ℕ). z * 2 ^ 1074) (mul-one m)
+      ∙ ap (λ (z : ℕ). m * 2 ^ z) (sym (add-sub-of-le (exponent-le (suc k) 1074 h)) ∙ add-comm (suc k) (1074 - suc k))
+      ∙ ap (λ (z : ℕ). m * z) (pow-add 2 (1074 - suc k) (suc k))
+      ∙ sym (mul-assoc m (2 ^ (1074 - suc k)) (2 ^ suc k)),
+)
+
+parts : (a b c d : Bool) → T (a && b && c && d) → T b × T c
+parts a b c d t = (and-r a b (and-l (a && b) c (and-l (a && b && c) d t)), and-r (a && b) c (and-l (a && b && c) d t))
+
+itself : (s : Bool) (m : ℕ) (e : ℤ) → T (fits binary64 (fin s (suc m) e)) → round binary64 s (suc m * up e) (down e) ≡ fin s (suc m) e
+unfolding fits
+itself s m e t =
+    let f = parts (eqb (suc m % 2) 1) (ltb (suc m) 9007199254740992) (leb (down e) (2 ^ 1074)) (ltb (suc m * up e) (2 ^ 1024 * down e)) t in
+    let u = in-units (suc m) e (leb→le (down e) (2 ^ 1074) (f .1)) in
+    let n : inUnits (fin false (suc m) e) ≡ suc m * 2 ^ u .0 = ap (λ (z : ℕ). z / down e) (u .1) ∙ mul-div-cancel (suc m * 2 ^ u .0) (down-pos e) in
+    same-value (round binary64 s (suc m * up e) (down e)) s (suc m) e (round-fits binary64 s (suc m * up e) (down e)) t
+    (round-exact binary64 s (suc m * up e) (down e) (suc m) (u .0) (down-pos e) (ltb→lt (suc m) 9007199254740992 (f .0)) (subst (λ (z : ℕ). z < 2 ^ 2098) n (shape (suc m) e t .under)) (u .1))
+
+-- ---- 0.0 + x
+sums : (s : Bool) (a d : ℕ) → 0 < a → sum binary64 false (0 * 1 * d) s (a * 1) (1 * d) ≡ round binary64 s a d
+unfolding sum
+sums false a d h =
+    let p : 0 * 1 * d + a * 1 ≡ a = omega arith in
+    let q : 1 * d ≡ d = omega arith in
+    rw (p, q)
+sums true a d h =
+    let p : a * 1 - 0 * 1 * d ≡ a = omega arith in
+    let q : 1 * d ≡ d = omega arith in
+    let l : 0 * 1 * d < a * 1 = omega arith in
+    rw (is-true (ltb (0 * 1 * d) (a * 1)) (lt→ltb (0 * 1 * d) (a * 1) l), p, q)
+
+plus-some : (s : Bool) (m : ℕ) (e : ℤ) → T (fits binary64 (fin s (suc m) e)) → F._⊕_ F.zero (fin s (suc m) e) ≡ fin s (suc m) e
+unfolding add ofBits
+plus-some s m e t = sums s (suc m * up e) (down e) (mul-pos (zero-lt-suc m) (up-pos e)) ∙ itself s m e t
+
+zero-exponent : (s : Bool) (e : ℤ) → T (fits binary64 (fin s 0 e)) → fin s 0 e ≡ fin s 0 (pos 0)
+zero-exponent s e t = same-value (fin s 0 e) s 0 (pos 0) t (zero-fits s) (refl, none (up e) (down e))
+  where
+    zero-fits : (s : Bool) → T (fits binary64 (fin s 0 (pos 0)))
+    zero-fits s = unfold fits in tt
+
+    none : (u d : ℕ) → 0 * u * 1 ≡ 0 * 1 * d
+    none u d = omega arith
+
+minus-zero : fin true 0 (pos 0) ≡ neg F.zero
+unfolding neg ofBits
+minus-zero = refl
+
+pub plus-plain : (x : Float) → Plain x → F._⊕_ F.zero x ≡ x
+unfolding add ofBits
+plus-plain nan p = refl
+plus-plain (inf s) p = refl
+plus-plain (fin s (suc m) e) p = plus-some s m e (p .held)
+plus-plain (fin true zero e) p = absurd (p .signed (zero-exponent true e (p .held) ∙ minus-zero))
+plus-plain (fin false zero e) p = subst (λ (x : Float). F._⊕_ F.zero x ≡ x) (sym (zero-exponent false e (p .held))) refl
+
+-- ---- the other way round, and back
+again : (x : Float) → Plain x → F._⊕_ F.zero (neg (F._⊕_ F.zero (neg x))) ≡ x
+unfolding add neg ofBits
+again nan p = refl
+again (inf true) p = refl
+again (inf false) p = refl
+again (fin true (suc m) e) p = rw (plus-some false m e (fits-either true false (suc m) e (p .held))) (plus-some true m e (p .held))
+again (fin false (suc m) e) p = rw (plus-some true m e (fits-either false true (suc m) e (p .held))) (plus-some false m e (p .held))
+again (fin true zero e) p = absurd (p .signed (zero-exponent true e (p .held) ∙ minus-zero))
+again (fin false zero e) p = subst (λ (x : Float). F._⊕_ F.zero (neg (F._⊕_ F.zero (neg x))) ≡ x) (sym (zero-exponent false e (p .held))) refl
+
+pub opposite-twice : (a : MinorArc) → PlainVec (a .normal) → reversed (reversed a) ≡ a
+opposite-twice a p = rw (again (a .normal .x) (p .on-x), again (a .normal .y) (p .on-y), again (a .normal .z) (p .on-z))

@@ -1,0 +1,4 @@
+pub mod Judged
+pub mod Clears
+pub mod Unique
+pub mod Settled

@@ -22,35 +22,34 @@ allOf p n = not (anyOf (λ i. not (p i)) n 0)
 
 -- ---- `is_convex`
 
-abbrev pub isLeft : Side → Bool
-isLeft Left = true
-isLeft Right = false
-isLeft Collinear = false
-
-abbrev pub isRight : Side → Bool
-isRight Left = false
-isRight Right = true
-isRight Collinear = false
+-- a side is left, for true, or right, for false
+abbrev pub isTo : Bool → Side → Bool
+isTo left Left = left
+isTo left Right = not left
+isTo left Collinear = false
 
 -- the side at corner i, by the corners before and after it, counted round
 unfoldable pub sideAt : List Float → ℕ → ℕ → Side
 sideAt ps n i = sideOf (posAt ps ((i + n - 1) % n)) (posAt ps i) (posAt ps ((i + 1) % n))
 
-abbrev pub leftAt : List Float → ℕ → ℕ → Bool
-leftAt ps n i = isLeft (sideAt ps n i)
+abbrev pub turnsTo : Bool → List Float → ℕ → ℕ → Bool
+turnsTo left ps n i = isTo left (sideAt ps n i)
 
-abbrev pub rightAt : List Float → ℕ → ℕ → Bool
-rightAt ps n i = isRight (sideAt ps n i)
+unfoldable pub anySide : Bool → List Float → ℕ → Bool
+anySide left ps n = anyOf (turnsTo left ps n) n 0
 
 -- up to three corners, or not both a left and a right among the sides
 unfoldable pub convex : List Float → ℕ → Bool
-convex ps n = leb n 3 || not (anyOf (leftAt ps n) n 0 && anyOf (rightAt ps n) n 0)
+convex ps n = leb n 3 || not (anySide true ps n && anySide false ps n)
 
 -- ---- `is_simple`
 
 -- the corner and the next, counted round, are equal or antipodes
 unfoldable pub noCircle : List Float → ℕ → ℕ → Bool
 noCircle ps n i = same (posAt ps i) (posAt ps ((i + 1) % n)) || antipodes (posAt ps i) (posAt ps ((i + 1) % n))
+
+unfoldable pub anyWithoutCircle : List Float → ℕ → Bool
+anyWithoutCircle ps n = anyOf (noCircle ps n) n 0
 
 abbrev pub isThere : Point → Bool
 isThere Absent = false
@@ -60,15 +59,18 @@ unfoldable pub edgesMeet : List Float → List Float → ℕ → ℕ → ℕ →
 edgesMeet ps ns n i j = isThere (meetingPoint (meetingOf (edgeAt ps ns n i) (edgeAt ps ns n j)))
 
 -- the edges after the next up to the last, which of the first edge is the one before the last: that one is contiguous with it
-abbrev pub endOf : ℕ → ℕ → ℕ
+unfoldable pub endOf : ℕ → ℕ → ℕ
 endOf n i = if eqb i 0 then n - 1 else n
 
 unfoldable pub meetsLater : List Float → List Float → ℕ → ℕ → Bool
 meetsLater ps ns n i = anyOf (edgesMeet ps ns n i) (endOf n i - (i + 2)) (i + 2)
 
+unfoldable pub anyMeetsLater : List Float → List Float → ℕ → Bool
+anyMeetsLater ps ns n = anyOf (meetsLater ps ns n) (n - 1) 0
+
 -- each two neighbours have one great circle, and no two edges that are not contiguous meet
 unfoldable pub simple : List Float → List Float → ℕ → Bool
-simple ps ns n = not (anyOf (noCircle ps n) n 0) && (leb n 3 || not (anyOf (meetsLater ps ns n) (n - 1) 0))
+simple ps ns n = not (anyWithoutCircle ps n) && (leb n 3 || not (anyMeetsLater ps ns n))
 
 -- ---- `is_equivalent`, of two rings of n corners
 
@@ -76,15 +78,19 @@ simple ps ns n = not (anyOf (noCircle ps n) n 0) && (leb n 3 || not (anyOf (meet
 unfoldable pub agree : List Float → List ℕ → List Float → List ℕ → ℕ → ℕ → Bool
 agree ps cs os ds i j = same (posAt ps i) (posAt os j) && eqb (getD cs i 0) (getD ds j 0)
 
-abbrev pub ahead : List Float → List ℕ → List Float → List ℕ → ℕ → ℕ → ℕ → Bool
-ahead ps cs os ds n offset i = agree ps cs os ds i ((i + offset) % n)
+-- the other ring's corner that stands beside corner i, forward from the offset or backward
+unfoldable pub beside : Bool → ℕ → ℕ → ℕ → ℕ
+beside back n offset i = if back then (n + offset - i) % n else (i + offset) % n
 
-abbrev pub back : List Float → List ℕ → List Float → List ℕ → ℕ → ℕ → ℕ → Bool
-back ps cs os ds n offset i = agree ps cs os ds i ((n + offset - i) % n)
+abbrev pub agreeAt : Bool → List Float → List ℕ → List Float → List ℕ → ℕ → ℕ → ℕ → Bool
+agreeAt back ps cs os ds n offset i = agree ps cs os ds i (beside back n offset i)
 
--- all corners agree from the offset on, forward or backward
-unfoldable pub sameFrom : List Float → List ℕ → List Float → List ℕ → ℕ → ℕ → Bool
-sameFrom ps cs os ds n offset = allOf (ahead ps cs os ds n offset) n || allOf (back ps cs os ds n offset) n
+unfoldable pub allAgree : Bool → List Float → List ℕ → List Float → List ℕ → ℕ → ℕ → Bool
+allAgree back ps cs os ds n offset = allOf (agreeAt back ps cs os ds n offset) n
 
+abbrev pub sameFrom : List Float → List ℕ → List Float → List ℕ → ℕ → ℕ → Bool
+sameFrom ps cs os ds n offset = allAgree false ps cs os ds n offset || allAgree true ps cs os ds n offset
+
+-- from some offset on all corners agree, forward or backward
 unfoldable pub sameRings : List Float → List ℕ → List Float → List ℕ → ℕ → Bool
 sameRings ps cs os ds n = anyOf (sameFrom ps cs os ds n) n 0

@@ -72,6 +72,23 @@ pub fn triangles(ring: &Ring) -> Option<Vec<Triple>> {
     Some(out)
 }
 
+/// Cuts at eligible places that `choose` picks, for lists that the checker must accept; none where it gets stuck.
+pub fn other_triangles(ring: &Ring, mut choose: impl FnMut(usize) -> usize) -> Option<Vec<Triple>> {
+    let mut left = Left::of(ring);
+    let mut out = Vec::new();
+    while left.0.len() > 3 {
+        let places: Vec<usize> = (0..left.0.len()).filter(|i| left.eligible(*i)).collect();
+        if places.is_empty() {
+            return None;
+        }
+        let at = places[choose(places.len())];
+        out.push(left.triple(at));
+        left.cut(at);
+    }
+    out.push(left.last());
+    Some(out)
+}
+
 /// The same, held to the source's own `ear_clipping`, which answers by position.
 pub fn triangles_checked(ring: &Ring) -> Option<Vec<Triple>> {
     let ours = triangles(ring);

@@ -20,7 +20,7 @@ fn main() {
     println!("cargo:rerun-if-env-changed=DESK_LIB_DIR");
     println!("cargo:rerun-if-changed=build.rs");
     println!("cargo:rerun-if-changed=names.rs");
-    for name in NAMES {
+    for name in NAMES.iter().chain(&["desk_standin"]) {
         println!("cargo:rustc-check-cfg=cfg(has_{name})");
     }
     let own = Path::new(env!("CARGO_MANIFEST_DIR")).join("../../target/staticlib");
@@ -37,7 +37,7 @@ fn main() {
     println!("cargo:rustc-link-search=native={}", dir.display());
     println!("cargo:rustc-link-lib=static=exports");
     let there = symbols(&archive);
-    for name in NAMES.iter().filter(|n| there.iter().any(|t| t == *n)) {
+    for name in NAMES.iter().chain(&["desk_standin"]).filter(|n| there.iter().any(|t| t == *n)) {
         println!("cargo:rustc-cfg=has_{name}");
     }
 }

@@ -1,5 +1,8 @@
 //! One call per export, as exports/desk.h declares it; `None` where the export is not linked.
 
+/// Whether what is linked is the stand-in of oracle/standin and not the port.
+pub const STANDIN: bool = cfg!(has_desk_standin);
+
 // A slice as the exports take it: pointer and count.
 macro_rules! exports {
     ($($(#[$doc:meta])* $has:ident $name:ident ( $($arg:ident : $kind:ident),* ) -> $ret:ty;)*) => {

@@ -1,11 +1,13 @@
 //! The host: feeds the port and the Rust the same inputs.
 mod arcs;
+mod bench;
 mod calls;
 mod constants;
 mod leaves;
 mod pairs;
 mod port;
 mod random;
+mod record;
 mod rings;
 mod scenes;
 mod shapes;
@@ -20,7 +22,9 @@ use tally::Tally;
 const USAGE: &str = "\
 host constants                   the numbers that the port records
 host compare GROUP [N] [SEED]    N inputs of a group (or all) to both sides; exit status 1 on a difference
-host groups                      the groups whose exports are there";
+host groups                      the groups whose exports are there
+host record FILE [N]             about N recorded answers an export, for the program `replay`
+host bench                       nanoseconds of both and their ratio";
 
 /// The groups, with the exports that they need one of.
 const GROUPS: [(&str, &[Export]); 11] = [
@@ -58,6 +62,35 @@ fn available(t: &mut Tally, group: &str) -> bool {
     scene || exports.iter().any(|e| t.has(*e))
 }
 
+/// Puts a group's inputs to a tally.
+fn feed(group: &str, t: &mut Tally, r: &mut Random, n: usize) {
+    match group {
+        "root" => leaves::root(t, r, n),
+        "atan" => leaves::atan(t, r, n),
+        "leaves" => leaves::leaves(t, r, n),
+        "arcs" => arcs::arcs(t, r, n),
+        "build" => rings::build(t, r, n),
+        "place" => rings::place(t, r, n),
+        "triangles" => rings::triangles(t, r, n),
+        "accepts" => rings::accepts(t, r, n),
+        "questions" => rings::questions(t, r, n),
+        "pair" => pairs::pair(t, r, n),
+        _ => scenes::scenes(t, r, n, &root()),
+    }
+}
+
+fn record(file: &str, wanted: usize) {
+    let mut calls = Vec::new();
+    for (group, _) in GROUPS.iter().filter(|g| g.0 != "scene" && g.0 != "leaves") {
+        let mut t = Tally::only_filled();
+        feed(group, &mut t, &mut Random::new(1), wanted * 4);
+        calls.extend(t.drain());
+    }
+    let (bytes, n) = record::file(calls, wanted);
+    std::fs::write(file, &bytes).expect("the file is written");
+    println!("{n} answers, {} bytes", bytes.len());
+}
+
 fn run(group: &str, n: usize, seed: u64) -> bool {
     let mut t = Tally::new(open());
     if !available(&mut t, group) {
@@ -65,21 +98,7 @@ fn run(group: &str, n: usize, seed: u64) -> bool {
         return true;
     }
     let began = std::time::Instant::now();
-    let mut r = Random::new(seed);
-    let r = &mut r;
-    match group {
-        "root" => leaves::root(&mut t, r, n),
-        "atan" => leaves::atan(&mut t, r, n),
-        "leaves" => leaves::leaves(&mut t, r, n),
-        "arcs" => arcs::arcs(&mut t, r, n),
-        "build" => rings::build(&mut t, r, n),
-        "place" => rings::place(&mut t, r, n),
-        "triangles" => rings::triangles(&mut t, r, n),
-        "accepts" => rings::accepts(&mut t, r, n),
-        "questions" => rings::questions(&mut t, r, n),
-        "pair" => pairs::pair(&mut t, r, n),
-        _ => scenes::scenes(&mut t, r, n, &root()),
-    }
+    feed(group, &mut t, &mut Random::new(seed), n);
     let same = t.report(group);
     println!("  ({n} inputs, seed {seed}, {:.1} s)", began.elapsed().as_secs_f64());
     same
@@ -120,6 +139,18 @@ fn main() {
         ["compare", group] => compare(group, 1000, 1),
         ["compare", group, n] => compare(group, number(n) as usize, 1),
         ["compare", group, n, seed] => compare(group, number(n) as usize, number(seed)),
+        ["record", file] => {
+            record(file, 200);
+            true
+        }
+        ["record", file, n] => {
+            record(file, number(n) as usize);
+            true
+        }
+        ["bench"] => {
+            bench::bench();
+            true
+        }
         ["groups"] => {
             let mut t = Tally::new(open());
             for (g, _) in GROUPS {

@@ -50,6 +50,7 @@ impl Port {
     /// How the port is reached, for the run's first line.
     pub fn name(&self) -> &'static str {
         match self {
+            Port::Linked if desk::raw::STANDIN => "A STAND-IN, linked: this run says nothing of the port",
             Port::Linked => "linked",
             Port::Piped(_) => "through the stub, emulated",
         }

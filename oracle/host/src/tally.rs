@@ -9,7 +9,7 @@ const SHOWN: u64 = 5;
 const BATCH: usize = 1 << 20;
 
 pub struct Tally {
-    port: Port,
+    port: Option<Port>,
     waiting: Vec<(Call, String)>,
     size: usize,
     pub kinds: BTreeMap<String, u64>,
@@ -102,8 +102,15 @@ fn cut(mut s: String) -> String {
 
 impl Tally {
     pub fn new(port: Port) -> Self {
+        let mut t = Tally::only_filled();
+        t.port = Some(port);
+        t
+    }
+
+    /// One that only gathers calls, to be recorded.
+    pub fn only_filled() -> Self {
         Tally {
-            port,
+            port: None,
             waiting: Vec::new(),
             size: 0,
             kinds: BTreeMap::new(),
@@ -115,7 +122,12 @@ impl Tally {
     }
 
     pub fn has(&mut self, e: Export) -> bool {
-        self.port.has(e)
+        self.port.as_mut().is_none_or(|p| p.has(e))
+    }
+
+    /// The calls gathered so far.
+    pub fn drain(&mut self) -> Vec<Call> {
+        std::mem::take(&mut self.waiting).into_iter().map(|w| w.0).collect()
     }
 
     /// Counts something that is worth knowing of the inputs.
@@ -131,16 +143,17 @@ impl Tally {
     pub fn put_as(&mut self, export: Export, args: Vec<Arg>, from: &str) {
         self.size += 64 + args.iter().map(|a| a.bytes().map_or(8, |b| b.len())).sum::<usize>();
         self.waiting.push((Call { export, args }, from.to_string()));
-        if self.size > BATCH {
+        if self.size > BATCH && self.port.is_some() {
             self.flush();
         }
     }
 
     pub fn flush(&mut self) {
+        let Some(port) = &mut self.port else { return };
         let waiting = std::mem::take(&mut self.waiting);
         self.size = 0;
         let calls: Vec<Call> = waiting.iter().map(|w| w.0.clone()).collect();
-        let answers = self.port.run(&calls);
+        let answers = port.run(&calls);
         for ((call, from), port) in waiting.iter().zip(answers) {
             let Some(port) = port else { continue };
             self.compare(call, from, &port);

@@ -16,6 +16,7 @@ pub struct Tally {
     pub notes: BTreeMap<String, u64>,
     pub compared: u64,
     pub differences: u64,
+    differing: BTreeMap<String, u64>,
     pub farthest: f64,
 }
 
@@ -71,6 +72,12 @@ fn same(call: &Call, ours: &Answer, port: &Answer) -> bool {
     }
 }
 
+/// Whether an argument of an arctangent is a zero or an infinity, and none a NaN.
+fn exact(args: &[Arg]) -> bool {
+    let f: Vec<f64> = args.iter().map(|a| f64::from_bits(a.word())).collect();
+    f.iter().any(|x| *x == 0.0 || x.is_infinite()) && !f.iter().any(|x| x.is_nan())
+}
+
 fn show_arg(a: &Arg) -> String {
     match a {
         Arg::Floats(f) => {
@@ -117,6 +124,7 @@ impl Tally {
             notes: BTreeMap::new(),
             compared: 0,
             differences: 0,
+            differing: BTreeMap::new(),
             farthest: 0.0,
         }
     }
@@ -178,6 +186,10 @@ impl Tally {
             _ => return,
         };
         let ours = f64::from_bits(port.value);
+        if call.export == Export::Atan2 && exact(&call.args) && ours.to_bits() != rust.to_bits() {
+            let rust = Answer { value: rust.to_bits(), outs: Vec::new() };
+            self.differ(call, "not the Rust's bits at a zero or an infinity", &rust, port);
+        }
         if !(rust.is_finite() && ours.is_finite()) {
             return;
         }
@@ -191,6 +203,7 @@ impl Tally {
 
     pub fn differ(&mut self, call: &Call, from: &str, ours: &Answer, port: &Answer) {
         self.differences += 1;
+        *self.differing.entry(kind_of(call, ours)).or_default() += 1;
         if self.differences > SHOWN {
             return;
         }
@@ -213,7 +226,8 @@ impl Tally {
         self.flush();
         println!("{group}: {} compared, {} differences", self.compared, self.differences);
         for (k, n) in &self.kinds {
-            println!("  {k}: {n}");
+            let off = self.differing.get(k).map_or(String::new(), |d| format!(" ({d} DIFFER)"));
+            println!("  {k}: {n}{off}");
         }
         for (k, n) in &self.notes {
             println!("  ({k}: {n})");

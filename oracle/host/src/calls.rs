@@ -10,6 +10,18 @@ pub enum Export {
     BuildF64, PlaceF64, PairF64, TrianglesF64, LeafVec, LeafNumber, LeafCase, LeafCap, Scene,
 }
 
+impl Export {
+    #[rustfmt::skip]
+    pub const ALL: [Export; 27] = {
+        use Export::*;
+        [
+            Root, Atan2, Build, Place, Pair, Triangles, Accepts, Convex, Simple, Vertex, OnEdge, Equivalent,
+            Arc, ArcOpposite, ArcSide, ArcContains, ArcIntersection, ArcRelate,
+            BuildF64, PlaceF64, PairF64, TrianglesF64, LeafVec, LeafNumber, LeafCase, LeafCap, Scene,
+        ]
+    };
+}
+
 #[derive(Clone, Debug, PartialEq)]
 pub enum Arg {
     Word(u64),
@@ -58,6 +70,23 @@ impl Arg {
             }
             Arg::OutShorts(s) => Some(s.iter().flat_map(|x| x.to_le_bytes()).collect()),
             _ => None,
+        }
+    }
+
+    /// An argument of the same kind, of a word or of a slice's bytes.
+    pub fn of(&self, word: u64, data: &[u8]) -> Arg {
+        let floats = || data.chunks_exact(8).map(|c| f64::from_le_bytes(c.try_into().unwrap())).collect();
+        match self {
+            Arg::Word(_) => Arg::Word(word),
+            Arg::Int(_) => Arg::Int(word as u32),
+            Arg::Float(_) => Arg::Float(f64::from_bits(word)),
+            Arg::Bytes(_) => Arg::Bytes(data.to_vec()),
+            Arg::OutBytes(_) => Arg::OutBytes(data.to_vec()),
+            Arg::Floats(_) => Arg::Floats(floats()),
+            Arg::OutFloats(_) => Arg::OutFloats(floats()),
+            Arg::OutShorts(_) => {
+                Arg::OutShorts(data.chunks_exact(2).map(|c| u16::from_le_bytes([c[0], c[1]])).collect())
+            }
         }
     }
 

@@ -186,6 +186,9 @@ fn sides(t: &mut Tally, r: &mut Random) {
     let q = unit([r.between(-1.0, 1.0), r.between(-1.0, 1.0), 0.0]);
     // (x, y, z) against X and Y: the first product is z itself.
     put_case(t, 6, nine([q[0], q[1], z], [1.0, 0.0, 0.0], [0.0, 1.0, 0.0]));
+    // Longer ones, as an altered normal may be: the first product is z again, but the retest sees a smaller one.
+    let (k, m) = (2.0_f64.powi(r.below(12) as i32), 2.0_f64.powi(r.below(12) as i32));
+    put_case(t, 6, nine([q[0], q[1], z / (k * m)], [k, 0.0, 0.0], [0.0, m, 0.0]));
     let (a, b) = (r.unit(), r.unit());
     let c = cross(a, b);
     let share = z / dot(c, c).sqrt();

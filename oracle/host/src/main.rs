@@ -4,6 +4,7 @@ mod bench;
 mod calls;
 mod constants;
 mod leaves;
+mod mutants;
 mod pairs;
 mod port;
 mod random;
@@ -24,6 +25,8 @@ host constants                   the numbers that the port records
 host compare GROUP [N] [SEED]    N inputs of a group (or all) to both sides; exit status 1 on a difference
 host groups                      the groups whose exports are there
 host record FILE [N]             about N recorded answers an export, for the program `replay`
+host serve                       answers the stub's batches by the model (for host mutants)
+host mutants [WORD]              wrong programs in the port's place: each must be noticed
 host bench                       nanoseconds of both and their ratio";
 
 /// The groups, with the exports that they need one of.
@@ -50,7 +53,8 @@ fn root() -> PathBuf {
 }
 
 fn open() -> Port {
-    Port::open(&root().join("oracle/target/stub")).unwrap_or_else(|| {
+    let stub = std::env::var_os("DESK_STUB").map_or(root().join("oracle/target/stub"), PathBuf::from);
+    Port::open(&stub).unwrap_or_else(|| {
         eprintln!("no port: link libexports.a (x86-64) or make oracle/target/stub (oracle/stub/build)");
         std::process::exit(2);
     })
@@ -147,6 +151,12 @@ fn main() {
             record(file, number(n) as usize);
             true
         }
+        ["serve"] => {
+            port::serve();
+            true
+        }
+        ["mutants"] => mutants::run(&root().join("oracle"), ""),
+        ["mutants", word] => mutants::run(&root().join("oracle"), word),
         ["bench"] => {
             bench::bench();
             true

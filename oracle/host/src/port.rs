@@ -26,6 +26,13 @@ pub fn emulator() -> Option<PathBuf> {
     at.is_file().then_some(at)
 }
 
+/// Whether the program is x86-64 code, by its ELF header.
+fn is_x86(program: &Path) -> bool {
+    let mut head = [0; 20];
+    let read = std::fs::File::open(program).and_then(|mut f| f.read_exact(&mut head));
+    read.is_ok() && head[18] == 0x3E
+}
+
 impl Port {
     /// The linked library where it has anything, else the stub at `stub`.
     pub fn open(stub: &Path) -> Option<Port> {
@@ -35,7 +42,7 @@ impl Port {
         if !stub.is_file() {
             return None;
         }
-        let mut command = match emulator() {
+        let mut command = match emulator().filter(|_| is_x86(stub)) {
             Some(e) => {
                 let mut c = Command::new(e);
                 c.arg(stub);
@@ -43,7 +50,7 @@ impl Port {
             }
             None => Command::new(stub),
         };
-        let child = command.stdin(Stdio::piped()).stdout(Stdio::piped()).spawn().ok()?;
+        let child = command.arg("serve").stdin(Stdio::piped()).stdout(Stdio::piped()).spawn().ok()?;
         Some(Port::Piped(child))
     }
 
@@ -52,7 +59,7 @@ impl Port {
         match self {
             Port::Linked if desk::raw::STANDIN => "A STAND-IN, linked: this run says nothing of the port",
             Port::Linked => "linked",
-            Port::Piped(_) => "through the stub, emulated",
+            Port::Piped(_) => "reached through the stub",
         }
     }
 
@@ -187,6 +194,51 @@ fn decode(c: &Call, head: &(usize, Vec<(usize, usize)>), sent: &[u8], back: &[u8
         word(1) & 0xFFFF_FFFF
     };
     Some(Answer { value, outs })
+}
+
+/// The other end of the pipe, answered by the model: what stands in the port's place in `host mutants`.
+pub fn serve() {
+    let (mut from, mut to) = (std::io::stdin().lock(), std::io::stdout().lock());
+    let mut size = [0; 8];
+    while from.read_exact(&mut size).is_ok() {
+        let mut batch = vec![0; u64::from_le_bytes(size) as usize];
+        from.read_exact(&mut batch).expect("a whole batch");
+        let mut at = 0;
+        while at < batch.len() {
+            at = answer_at(&mut batch, at);
+        }
+        to.write_all(&size).unwrap();
+        to.write_all(&batch).unwrap();
+        to.flush().unwrap();
+    }
+}
+
+fn word_at(b: &[u8], at: usize) -> u64 {
+    u64::from_le_bytes(b[at..at + 8].try_into().unwrap())
+}
+
+/// Reads the call at `at`, answers it in place, and returns where the next one starts.
+fn answer_at(batch: &mut [u8], at: usize) -> usize {
+    let export = Export::ALL[batch[at] as usize];
+    let mut call = probe(export);
+    let mut places = Vec::new();
+    let mut next = at + 24;
+    for a in &mut call.args {
+        let (word, size) = (word_at(batch, next + 8), word_at(batch, next + 16) as usize);
+        let data = &batch[next + 24..next + 24 + size.saturating_sub(GUARD)];
+        *a = a.of(word, data);
+        if a.is_out() {
+            places.push(next + 24);
+        }
+        next += 24 + size.div_ceil(8) * 8;
+    }
+    let answer = crate::calls::by_model(&call);
+    batch[at + 8..at + 16].copy_from_slice(&answer.value.to_le_bytes());
+    batch[at + 16..at + 24].copy_from_slice(&1u64.to_le_bytes());
+    for (place, out) in places.iter().zip(&answer.outs) {
+        batch[*place..place + out.len()].copy_from_slice(out);
+    }
+    next
 }
 
 impl Drop for Port {

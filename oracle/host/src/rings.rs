@@ -166,7 +166,7 @@ fn damage_once(r: &mut Random, b: &mut Vec<u8>) {
     }
     let n = if b.len() == HEADER + 49 * count(b) { count(b) } else { 0 };
     let set = |b: &mut Vec<u8>, at: usize, f: f64| b[at..at + 8].copy_from_slice(&f.to_le_bytes());
-    match r.below(16) {
+    match r.below(17) {
         0 => b[2] = *r.pick(&[0, 1, 2, 3, 255]),
         1 => b[3] ^= 1 << r.below(8),
         2 => b[3] ^= 4,
@@ -219,6 +219,7 @@ fn damage_once(r: &mut Random, b: &mut Vec<u8>) {
             b.truncate(keep);
         }
         15 => b.extend(blank(1 + r.below(60))),
+        16 => tilt(r, b, n),
         _ => {
             // All normals the other way: the count of crossings stays, the sides turn.
             for i in 0..3 * n {
@@ -227,6 +228,17 @@ fn damage_once(r: &mut Random, b: &mut Vec<u8>) {
                 set(b, at, f);
             }
         }
+    }
+}
+
+/// All normals tilted outward, so that corners and edges come to lie on the inner side of each.
+fn tilt(r: &mut Random, b: &mut [u8], n: usize) {
+    let (centre, by) = (at(b, 8), *r.pick(&[1e-15, 1e-12, 1e-3, 0.5]));
+    for i in 0..n {
+        let place = HEADER + 24 * (n + i);
+        let normal = at(b, place);
+        let tilted = add(normal, scale(centre, -by));
+        b[place..place + 24].copy_from_slice(&bytes(tilted));
     }
 }
 

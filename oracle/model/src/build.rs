@@ -42,7 +42,9 @@ pub fn build(list: &[NVector]) -> Built {
     let (edges, rust_clockwise) = sloop::to_edges(opened);
     let ours = turn_sum(&edges, |a, b| turning(a.normal(), b.normal(), a.end().as_vec3()));
     let rust = turn_sum(&edges, |a, b| a.turn(b).as_radians());
-    assert_eq!(rust < 0.0, rust_clockwise, "the turn sum is the source's");
+    if cfg!(feature = "held") {
+        assert_eq!(rust < 0.0, rust_clockwise, "the turn sum is the source's");
+    }
     let (turns, weak) = (Some((ours, rust)), ours.abs() < STEADY);
     let clockwise = ours < 0.0;
     let edges = if clockwise { edges } else { sloop::reverse_edges(&edges) };
@@ -54,7 +56,7 @@ pub fn build(list: &[NVector]) -> Built {
         let cap = sloop::calc_bounding_cap(opened);
         Built { state: RING, reversed: !clockwise, weak, cap, insides, vertices, edges, turns }
     };
-    if clockwise == rust_clockwise {
+    if cfg!(feature = "held") && clockwise == rust_clockwise {
         same_as_source(&built, &Loop::new(list));
     }
     built

@@ -92,6 +92,9 @@ pub fn other_triangles(ring: &Ring, mut choose: impl FnMut(usize) -> usize) -> O
 /// The same, held to the source's own `ear_clipping`, which answers by position.
 pub fn triangles_checked(ring: &Ring) -> Option<Vec<Triple>> {
     let ours = triangles(ring);
+    if !cfg!(feature = "held") {
+        return ours;
+    }
     let at = |i: u16| ring.vertices[usize::from(i)].0;
     let by_position: Vec<_> =
         ours.iter().flatten().map(|t| (at(t[0]), at(t[1]), at(t[2]))).collect();

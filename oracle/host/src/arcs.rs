@@ -124,6 +124,19 @@ pub fn damage(r: &mut Random, mut b: Vec<u8>) -> Vec<u8> {
     b
 }
 
+/// Two of: a position that is not finite, one out of range, a normal that is not finite.
+fn two_faults(r: &mut Random, b: &mut [u8]) {
+    for _ in 0..2 {
+        let at = 24 * r.below((b.len() / 24).max(1));
+        if b.len() < at + 24 {
+            return;
+        }
+        let f = *r.pick(&[f64::NAN, f64::INFINITY, 0.5, 3.0]);
+        let at = at + 8 * r.below(3);
+        b[at..at + 8].copy_from_slice(&f.to_le_bytes());
+    }
+}
+
 fn near_point(r: &mut Random, q: [P; 4]) -> P {
     let (a, b) = (q[0], q[1]);
     match r.below(7) {
@@ -160,6 +173,10 @@ pub fn arcs(t: &mut Tally, r: &mut Random, n: usize) {
         for one in [&mut a, &mut b, &mut s, &mut e, &mut p] {
             if r.chance(12) {
                 *one = damage(r, std::mem::take(one));
+            }
+            if r.chance(24) {
+                // Two faults in one: their order shows.
+                two_faults(r, one);
             }
         }
         let by = |b: &Vec<u8>| Arg::Bytes(b.clone());

@@ -121,6 +121,13 @@ fn loop_like(r: &mut Random, list: &[P]) -> Vec<u8> {
     if r.chance(16) {
         return damaged_loop(r, &l);
     }
+    if r.chance(24) {
+        // An empty cap, or a full one, round what it was not made for.
+        let mut b = l.clone();
+        let radius: f64 = *r.pick(&[-1.0, -1.0, 4.0, 0.0, -2.0]);
+        b[32..40].copy_from_slice(&radius.to_le_bytes());
+        return b;
+    }
     if r.chance(16) && count(&l) > 3 {
         // Mute: the insides taken away.
         let mut b = l.clone();

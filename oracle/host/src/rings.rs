@@ -77,8 +77,9 @@ fn put_build(t: &mut Tally, r: &mut Random, list: &[P]) {
         b = damage(r, b);
     }
     let needs = HEADER + 49 * opened(list);
-    let size = match r.below(6) {
+    let size = match r.below(7) {
         0 => needs + r.below(100),
+        2 => *r.pick(&[0, 1, HEADER - 1, HEADER]),
         1 => needs.saturating_sub(1 + r.below(3) * r.below(50)),
         _ => needs,
     };
@@ -150,6 +151,10 @@ pub fn build(t: &mut Tally, r: &mut Random, n: usize) {
 /// A loop with one or two of its fields not as they were built.
 pub fn damaged_loop(r: &mut Random, l: &[u8]) -> Vec<u8> {
     let mut b = l.to_vec();
+    if r.chance(4) {
+        faults(r, &mut b);
+        return b;
+    }
     for _ in 0..1 + r.below(2) {
         damage_once(r, &mut b);
     }
@@ -228,6 +233,33 @@ fn damage_once(r: &mut Random, b: &mut Vec<u8>) {
                 set(b, at, f);
             }
         }
+    }
+}
+
+/// Two or three faults that are refused each by its own number: their order shows.
+fn faults(r: &mut Random, b: &mut Vec<u8>) {
+    let n = if b.len() == HEADER + 49 * count(b) { count(b) } else { 0 };
+    for _ in 0..2 + r.below(2) {
+        let (at, f) = match r.below(8) {
+            0 | 1 if n > 0 => (HEADER + 24 * r.below(n), f64::NAN),
+            2 | 3 if n > 0 => (HEADER + 24 * r.below(n), 2.0),
+            4 if n > 0 => (HEADER + 24 * (n + r.below(n)), f64::INFINITY),
+            5 => (8 + 8 * r.below(4), f64::NAN),
+            6 => {
+                b[3] |= 4;
+                (40 + 8 * r.below(6), f64::NEG_INFINITY)
+            }
+            _ => {
+                if n > 0 {
+                    b[HEADER + 48 * n + r.below(n)] = 3;
+                }
+                continue;
+            }
+        };
+        b[at..at + 8].copy_from_slice(&f.to_le_bytes());
+    }
+    if r.chance(8) {
+        b.pop();
     }
 }
 

@@ -78,7 +78,7 @@ fn records(r: &mut Random) -> Vec<Vec<u8>> {
 /// One thing wrong with one record, or with the whole.
 fn damage(r: &mut Random, records: &mut Vec<Vec<u8>>) {
     let i = r.below(records.len() + 1);
-    let bad = match r.below(15) {
+    let bad = match r.below(17) {
         0 => record(*r.pick(&[0, 4, 5, 257, 65_535]), &[1, 0]),
         1 => record(1, &[1]),
         2 => record(1, &[0; 25]),
@@ -89,9 +89,10 @@ fn damage(r: &mut Random, records: &mut Vec<Vec<u8>>) {
         7 => pair(0, 1),
         8 => place(999, [1.0, 0.0, 0.0]),
         9 => pair(1, 999),
-        10 => area(400, &vec![[1.0, 0.0, 0.0]; *r.pick(&[512, 513, 1024, 1025])]),
+        10 => area(400, &vec![[*r.pick(&[1.0, f64::NAN, 2.0]), 0.0, 0.0]; *r.pick(&[512, 513, 1024, 1025])]),
         11 => area(401, &[[1.0, 0.0, 0.0], [2.0, 0.0, 0.0], [f64::NAN, 0.0, 0.0]]),
         12 => area(402, &[[1.0, 0.0, 0.0], [f64::NAN, 0.0, 0.0], [2.0, 0.0, 0.0]]),
+        15 => area(403, &vec![[f64::NAN, 0.0, 0.0]; 1025]),
         13 => match records.first() {
             Some(first) => first.clone(),
             None => record(9, &[]),

@@ -38,7 +38,8 @@ pub fn parts(l: &[u8]) -> (Vec<u8>, Vec<f64>, Vec<f64>, Vec<u8>) {
     let rest = &l[h.len()..];
     let n = if h.len() == HEADER { count(&h) } else { 0 };
     let take = |from: usize, size: usize| rest[from.min(rest.len())..(from + size).min(rest.len())].to_vec();
-    let floats = |b: Vec<u8>| -> Vec<f64> { b.chunks_exact(8).map(|c| f64::from_le_bytes(c.try_into().unwrap())).collect() };
+    let floats =
+        |b: Vec<u8>| -> Vec<f64> { b.chunks_exact(8).map(|c| f64::from_le_bytes(c.try_into().unwrap())).collect() };
     (h, floats(take(0, 24 * n)), floats(take(24 * n, 24 * n)), take(48 * n, usize::MAX / 2))
 }
 
@@ -372,7 +373,15 @@ pub fn place(t: &mut Tally, r: &mut Random, n: usize) {
         let x = if r.chance(30) { bad_float(r) } else { q[0] };
         t.put(
             Export::PlaceF64,
-            vec![Arg::Bytes(h), Arg::Floats(p), Arg::Floats(m), Arg::Bytes(c), Arg::Float(x), Arg::Float(q[1]), Arg::Float(q[2])],
+            vec![
+                Arg::Bytes(h),
+                Arg::Floats(p),
+                Arg::Floats(m),
+                Arg::Bytes(c),
+                Arg::Float(x),
+                Arg::Float(q[1]),
+                Arg::Float(q[2]),
+            ],
         );
     }
 }
@@ -438,7 +447,13 @@ pub fn triangles(t: &mut Tally, r: &mut Random, n: usize) {
         let len = shapes::length(r).min(if r.chance(6) { 512 } else { 100 });
         let l = some_loop(r, len);
         let state = if l.len() > 2 { l[2] } else { 0 };
-        let needs = if state == 1 { 20 } else if l.len() < 2 { 0 } else { count(&l).saturating_sub(2) };
+        let needs = if state == 1 {
+            20
+        } else if l.len() < 2 {
+            0
+        } else {
+            count(&l).saturating_sub(2)
+        };
         let size = match r.below(8) {
             0 => (6 * needs).saturating_sub(1 + r.below(6)),
             1 => 6 * needs + r.below(20),

@@ -127,10 +127,11 @@ fn judge_turns(t: &mut Tally, list: &[P]) {
 }
 
 pub fn build(t: &mut Tally, r: &mut Random, n: usize) {
-    // Every length around the borders, each with a shape of its own.
-    let lengths: Vec<usize> = (0..40).chain([63, 64, 65, 127, 128, 255, 256, 257, 400]).chain(505..516).collect();
-    for len in lengths {
-        for shape in [shapes::convex, shapes::star, shapes::ragged] {
+    // Every length up to some above the most, and each shape around the borders.
+    let shapes = [shapes::convex, shapes::star, shapes::ragged];
+    for len in 0..516 {
+        let border = len < 12 || len > 508;
+        for shape in shapes.iter().skip(len % 3).take(if border { 3 } else { 1 }) {
             let list = shape(r, len);
             put_build(t, r, &list);
         }

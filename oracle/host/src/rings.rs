@@ -131,7 +131,7 @@ pub fn build(t: &mut Tally, r: &mut Random, n: usize) {
     let shapes = [shapes::convex, shapes::star, shapes::ragged];
     for len in 0..516 {
         let border = len < 12 || len > 508;
-        for shape in shapes.iter().skip(len % 3).take(if border { 3 } else { 1 }) {
+        for shape in shapes.iter().skip(if border { 0 } else { len % 3 }).take(if border { 3 } else { 1 }) {
             let list = shape(r, len);
             put_build(t, r, &list);
         }

@@ -2,7 +2,7 @@
 ghost use mathlib.Core.Path.{_≡_};
 ghost use Prim.Native.Nat.{ℕ, _*_, _≤_};
 ghost use lib.ListN.{length};
-ghost use Rattle.ask.specs.Answers as A;
+ghost use Rattle.ask.specs.Answers as An;
 ghost use Rattle.ask.specs.Places as P;
 ghost use Rattle.ask.specs.Questions as Q;
 use cap::Cap;
@@ -32,7 +32,7 @@ fn clear(v: Vec3) -> Vec3
 }
 
 fn tell_place(inside: bool) -> Placed
-    ensures { λ r. ⌜ A.toldPlaced r ≡ A.answer (P.insideCode inside) ⌝ }
+    ensures { λ r. ⌜ An.toldPlaced r ≡ An.answer (P.insideCode inside) ⌝ }
 {
     if inside {
         Placed::Inside
@@ -42,7 +42,7 @@ fn tell_place(inside: bool) -> Placed
 }
 
 fn tell(yes: bool) -> Answered
-    ensures { λ r. ⌜ A.toldAnswered r ≡ A.boolTold yes ⌝ }
+    ensures { λ r. ⌜ An.toldAnswered r ≡ An.boolTold yes ⌝ }
 {
     if yes { Answered::Yes } else { Answered::No }
 }
@@ -50,7 +50,7 @@ fn tell(yes: bool) -> Answered
 // Without insides: three corners by their sides, more are mute, and none lie in the full loop alone.
 fn place_without(h: Header, positions: &[f64], normals: &[f64], p: Vec3) -> Placed
     requires { ⌜ (3 * h .count ≤ length (now positions)) × (3 * h .count ≤ length (now normals)) ⌝ }
-    ensures { λ r. ⌜ A.toldPlaced r ≡ A.answer (P.placeWithout h (now (positions .entry)) (now (normals .entry)) p) ⌝ }
+    ensures { λ r. ⌜ An.toldPlaced r ≡ An.answer (P.placeWithout h (now (positions .entry)) (now (normals .entry)) p) ⌝ }
 {
     if h.count == 3 {
         return tell_place(edges::in_triangle(positions, normals, p));
@@ -71,9 +71,11 @@ fn inside_with(h: Header, a: Vec3, b: Vec3, positions: &[f64], normals: &[f64], 
     requires { ⌜ (h .count ≤ 512) × (3 * h .count ≤ length (now positions)) × (3 * h .count ≤ length (now normals)) ⌝ }
     ensures { λ r. ⌜ r ≡ P.insideWith h a b (now (positions .entry)) (now (normals .entry)) p ⌝ }
 {
+    let handed = h.cap;
+    let radius = handed.radius;
     let cap = Cap {
-        centre: clear(h.cap.centre),
-        radius: h.cap.radius,
+        centre: clear(handed.centre),
+        radius,
     };
     edges::inside_by(cap, clear(a), clear(b), positions, normals, h.count, p)
 }
@@ -81,7 +83,7 @@ fn inside_with(h: Header, a: Vec3, b: Vec3, positions: &[f64], normals: &[f64], 
 // The place of a position against a loop that was judged.
 pub fn place(h: Header, positions: &[f64], normals: &[f64], p: Vec3) -> Placed
     requires { ⌜ (h .count ≤ 512) × (3 * h .count ≤ length (now positions)) × (3 * h .count ≤ length (now normals)) ⌝ }
-    ensures { λ r. ⌜ A.toldPlaced r ≡ A.answer (P.placeOf h (now (positions .entry)) (now (normals .entry)) p) ⌝ }
+    ensures { λ r. ⌜ An.toldPlaced r ≡ An.answer (P.placeOf h (now (positions .entry)) (now (normals .entry)) p) ⌝ }
 {
     let insides = h.insides;
     match insides {
@@ -108,7 +110,7 @@ pub fn contains_position(
     classes: &[u8],
     p: Vec3,
 ) -> Placed
-    ensures { λ r. ⌜ A.toldPlaced r ≡ Q.placeAnswer h (now (positions .entry)) (now (normals .entry)) (now (classes .entry)) p ⌝ }
+    ensures { λ r. ⌜ An.toldPlaced r ≡ Q.placeAnswer h (now (positions .entry)) (now (normals .entry)) (now (classes .entry)) p ⌝ }
 {
     let q = clear(p);
     let f = query_fault(h, positions, normals, classes, q);
@@ -126,7 +128,7 @@ pub fn has_vertex(
     classes: &[u8],
     p: Vec3,
 ) -> Answered
-    ensures { λ r. ⌜ A.toldAnswered r ≡ Q.vertexAnswer h (now (positions .entry)) (now (normals .entry)) (now (classes .entry)) p ⌝ }
+    ensures { λ r. ⌜ An.toldAnswered r ≡ Q.vertexAnswer h (now (positions .entry)) (now (normals .entry)) (now (classes .entry)) p ⌝ }
 {
     let q = clear(p);
     let f = query_fault(h, positions, normals, classes, q);
@@ -144,7 +146,7 @@ pub fn any_edge_contains_position(
     classes: &[u8],
     p: Vec3,
 ) -> Answered
-    ensures { λ r. ⌜ A.toldAnswered r ≡ Q.onEdgeAnswer h (now (positions .entry)) (now (normals .entry)) (now (classes .entry)) p ⌝ }
+    ensures { λ r. ⌜ An.toldAnswered r ≡ Q.onEdgeAnswer h (now (positions .entry)) (now (normals .entry)) (now (classes .entry)) p ⌝ }
 {
     let q = clear(p);
     let f = query_fault(h, positions, normals, classes, q);
@@ -156,7 +158,7 @@ pub fn any_edge_contains_position(
 
 // Whether a loop is convex.
 pub fn is_convex(h: Header, positions: &[f64], normals: &[f64], classes: &[u8]) -> Answered
-    ensures { λ r. ⌜ A.toldAnswered r ≡ Q.convexAnswer h (now (positions .entry)) (now (normals .entry)) (now (classes .entry)) ⌝ }
+    ensures { λ r. ⌜ An.toldAnswered r ≡ Q.convexAnswer h (now (positions .entry)) (now (normals .entry)) (now (classes .entry)) ⌝ }
 {
     let f = header::loop_fault(h, positions, normals, classes);
     if f != 0 {
@@ -167,11 +169,83 @@ pub fn is_convex(h: Header, positions: &[f64], normals: &[f64], classes: &[u8]) 
 
 // Whether a loop is simple.
 pub fn is_simple(h: Header, positions: &[f64], normals: &[f64], classes: &[u8]) -> Answered
-    ensures { λ r. ⌜ A.toldAnswered r ≡ Q.simpleAnswer h (now (positions .entry)) (now (normals .entry)) (now (classes .entry)) ⌝ }
+    ensures { λ r. ⌜ An.toldAnswered r ≡ Q.simpleAnswer h (now (positions .entry)) (now (normals .entry)) (now (classes .entry)) ⌝ }
 {
     let f = header::loop_fault(h, positions, normals, classes);
     if f != 0 {
         return Answered::Refused(f);
     }
     tell(edges::is_simple(positions, normals, h.count))
+}
+
+// The refusals of a first loop, and then those of a second.
+pub fn pair_fault(
+    h: Header,
+    positions: &[f64],
+    normals: &[f64],
+    classes: &[u8],
+    o: Header,
+    others: &[f64],
+    theirs: &[f64],
+    codes: &[u8],
+) -> u8
+    ensures { λ r. ⌜ r ≡ Q.pairFault h (now (positions .entry)) (now (normals .entry)) (now (classes .entry)) o (now (others .entry)) (now (theirs .entry)) (now (codes .entry)) ⌝ }
+{
+    judge::first(
+        header::loop_fault(h, positions, normals, classes),
+        header::loop_fault(o, others, theirs, codes),
+    )
+}
+
+fn is_full(state: State) -> bool
+    ensures { λ r. ⌜ r ≡ Q.fullState state ⌝ }
+{
+    match state {
+        State::Empty => false,
+        State::Full => true,
+        State::Ring => false,
+    }
+}
+
+// Whether two loops that were judged have the same corners and classes, from any corner on and in either direction.
+pub fn equivalent(
+    h: Header,
+    positions: &[f64],
+    classes: &[u8],
+    o: Header,
+    others: &[f64],
+    codes: &[u8],
+) -> bool
+    requires { ⌜ Q.Comparable h (now positions) (now classes) o (now others) (now codes) ⌝ }
+    ensures { λ r. ⌜ r ≡ Q.equivalentLoops h (now (positions .entry)) (now (classes .entry)) o (now (others .entry)) (now (codes .entry)) ⌝ }
+{
+    if h.count != o.count {
+        return false;
+    }
+    if h.count == 0 {
+        let one = h.state;
+        let other = o.state;
+        return is_full(one) == is_full(other);
+    }
+    edges::same_rings(positions, classes, others, codes, h.count)
+}
+
+// Whether two loops have the same corners, from any corner on and in either direction.
+pub fn is_equivalent(
+    h: Header,
+    positions: &[f64],
+    normals: &[f64],
+    classes: &[u8],
+    o: Header,
+    others: &[f64],
+    theirs: &[f64],
+    codes: &[u8],
+) -> Answered
+    ensures { λ r. ⌜ An.toldAnswered r ≡ Q.equivalentAnswer h (now (positions .entry)) (now (normals .entry)) (now (classes .entry)) o (now (others .entry)) (now (theirs .entry)) (now (codes .entry)) ⌝ }
+{
+    let f = pair_fault(h, positions, normals, classes, o, others, theirs, codes);
+    if f != 0 {
+        return Answered::Refused(f);
+    }
+    tell(equivalent(h, positions, classes, o, others, codes))
 }

@@ -15,33 +15,33 @@ use Rattle.ears.specs.Ears.{blocks, ear, reclass, recut, cutAt}
 use Rattle.cutting.specs.Cutting.{cutting, cuttingOf}
 use Rattle.checker.specs.Accepted.{fitsAt, sameNumbers, accepts, accepted}
 
-abbrev none : Float
+abbrev pub none : Float
 none = ofBits binary64 0
 
-abbrev six : Float
+abbrev pub six : Float
 six = ofBits binary64 0x3fe3333333333333
 
-abbrev minus-six : Float
+abbrev pub minus-six : Float
 minus-six = ofBits binary64 0xbfe3333333333333
 
-abbrev eight : Float
+abbrev pub eight : Float
 eight = ofBits binary64 0x3fe999999999999a
 
-abbrev four : List Float
+abbrev pub four : List Float
 four = none ∷ minus-six ∷ eight ∷ minus-six ∷ none ∷ eight ∷ none ∷ six ∷ eight ∷ six ∷ none ∷ eight ∷ []
 
-abbrev convex : List ℕ
+abbrev pub convex : List ℕ
 convex = 0 ∷ 0 ∷ 0 ∷ 0 ∷ []
 
-cut-four : cuttingOf four convex ≡ record { triangles = 3 ∷ 0 ∷ 1 ∷ 1 ∷ 2 ∷ 3 ∷ []; stuck = false }
+pub cut-four : cuttingOf four convex ≡ record { triangles = 3 ∷ 0 ∷ 1 ∷ 1 ∷ 2 ∷ 3 ∷ []; stuck = false }
 unfolding cutting firstAt anyOf flat blocks ear reclass recut cutAt insideOrEdge isCorner fitsEdges edgeSide fits sideOf signOf retestOf orthogonalTo unitVec axisFor abs rootOf add sub mul div neg lt le eq ofBits
 cut-four = refl
 
-also-accepted : (accepted four convex (3 ∷ 0 ∷ 1 ∷ 1 ∷ 2 ∷ 3 ∷ []) ≡ true) × (accepted four convex (0 ∷ 1 ∷ 2 ∷ 0 ∷ 2 ∷ 3 ∷ []) ≡ true)
+pub also-accepted : (accepted four convex (3 ∷ 0 ∷ 1 ∷ 1 ∷ 2 ∷ 3 ∷ []) ≡ true) × (accepted four convex (0 ∷ 1 ∷ 2 ∷ 0 ∷ 2 ∷ 3 ∷ []) ≡ true)
 unfolding accepted accepts fitsAt sameNumbers firstAt anyOf flat blocks ear reclass recut cutAt insideOrEdge isCorner fitsEdges edgeSide fits sideOf signOf retestOf orthogonalTo unitVec axisFor abs rootOf add sub mul div neg lt le eq ofBits
 also-accepted = (refl, refl)
 
--- (0,1,3) is no triple of neighbours; a rotated triple, a triple too few and a number outside the ring
-rejected : (accepted four convex (0 ∷ 1 ∷ 3 ∷ 1 ∷ 2 ∷ 3 ∷ []) ≡ false) × (accepted four convex (1 ∷ 3 ∷ 0 ∷ 1 ∷ 2 ∷ 3 ∷ []) ≡ false) × (accepted four convex (0 ∷ 1 ∷ 2 ∷ []) ≡ false) × (accepted four convex (0 ∷ 1 ∷ 9 ∷ 1 ∷ 2 ∷ 3 ∷ []) ≡ false)
+-- (3,0,1) rotated either way, the last triple rotated, a triple too few, and a number outside the ring
+pub rejected : (accepted four convex (0 ∷ 1 ∷ 3 ∷ 1 ∷ 2 ∷ 3 ∷ []) ≡ false) × (accepted four convex (1 ∷ 3 ∷ 0 ∷ 1 ∷ 2 ∷ 3 ∷ []) ≡ false) × (accepted four convex (3 ∷ 0 ∷ 1 ∷ 2 ∷ 3 ∷ 1 ∷ []) ≡ false) × (accepted four convex (0 ∷ 1 ∷ 2 ∷ []) ≡ false) × (accepted four convex (0 ∷ 1 ∷ 9 ∷ 1 ∷ 2 ∷ 3 ∷ []) ≡ false)
 unfolding accepted accepts fitsAt sameNumbers firstAt anyOf flat blocks ear reclass recut cutAt insideOrEdge isCorner fitsEdges edgeSide fits sideOf signOf retestOf orthogonalTo unitVec axisFor abs rootOf add sub mul div neg lt le eq ofBits
-rejected = (refl, refl, refl, refl)
+rejected = (refl, refl, refl, refl, refl)

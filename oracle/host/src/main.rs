@@ -1,12 +1,179 @@
+//! The host: feeds the port and the Rust the same inputs.
+mod arcs;
+mod bench;
+mod calls;
 mod constants;
+mod leaves;
+mod mutants;
+mod pairs;
+mod port;
+mod random;
+mod record;
+mod rings;
+mod scenes;
+mod shapes;
+mod tally;
+
+use calls::Export;
+use port::Port;
+use random::Random;
+use std::path::{Path, PathBuf};
+use tally::Tally;
+
+const USAGE: &str = "\
+host constants                   the numbers that the port records
+host compare GROUP [N] [SEED]    N inputs of a group (or all) to both sides; exit status 1 on a difference
+host groups                      the groups whose exports are there
+host record FILE [N]             about N recorded answers an export, for the program `replay`
+host serve                       answers the stub's batches by the model (for host mutants)
+host mutants [WORD]              wrong programs in the port's place: each must be noticed
+host bench                       nanoseconds of both and their ratio";
+
+/// The groups, with the exports that they need one of.
+const GROUPS: [(&str, &[Export]); 11] = [
+    ("root", &[Export::Root]),
+    ("atan", &[Export::Atan2]),
+    ("leaves", &[Export::LeafVec, Export::LeafNumber, Export::LeafCase, Export::LeafCap]),
+    ("arcs", &[Export::Arc, Export::ArcOpposite, Export::ArcSide, Export::ArcContains, Export::ArcIntersection, Export::ArcRelate]),
+    ("build", &[Export::Build, Export::BuildF64]),
+    ("place", &[Export::Place, Export::PlaceF64]),
+    ("triangles", &[Export::Triangles, Export::TrianglesF64]),
+    ("accepts", &[Export::Accepts]),
+    ("questions", &[Export::Convex, Export::Simple, Export::Vertex, Export::OnEdge, Export::Equivalent]),
+    ("pair", &[Export::Pair, Export::PairF64]),
+    ("scene", &[Export::Scene]),
+];
+
+/// The repository's root: DESK_ROOT, or the folder above this crate's workspace.
+fn root() -> PathBuf {
+    match std::env::var_os("DESK_ROOT") {
+        Some(r) => PathBuf::from(r),
+        None => Path::new(env!("CARGO_MANIFEST_DIR")).join("../.."),
+    }
+}
+
+fn open() -> Port {
+    let stub = std::env::var_os("DESK_STUB").map_or(root().join("oracle/target/stub"), PathBuf::from);
+    Port::open(&stub).unwrap_or_else(|| {
+        eprintln!("no port: link libexports.a (x86-64) or make oracle/target/stub (oracle/stub/build)");
+        std::process::exit(2);
+    })
+}
+
+fn available(t: &mut Tally, group: &str) -> bool {
+    let (_, exports) = GROUPS.iter().find(|g| g.0 == group).unwrap();
+    let scene = group == "scene" && scenes::Program::find(&root()).is_some();
+    scene || exports.iter().any(|e| t.has(*e))
+}
+
+/// Puts a group's inputs to a tally.
+fn feed(group: &str, t: &mut Tally, r: &mut Random, n: usize) {
+    match group {
+        "root" => leaves::root(t, r, n),
+        "atan" => leaves::atan(t, r, n),
+        "leaves" => leaves::leaves(t, r, n),
+        "arcs" => arcs::arcs(t, r, n),
+        "build" => rings::build(t, r, n),
+        "place" => rings::place(t, r, n),
+        "triangles" => rings::triangles(t, r, n),
+        "accepts" => rings::accepts(t, r, n),
+        "questions" => rings::questions(t, r, n),
+        "pair" => pairs::pair(t, r, n),
+        _ => scenes::scenes(t, r, n, &root()),
+    }
+}
+
+fn record(file: &str, wanted: usize) {
+    let mut calls = Vec::new();
+    for (group, _) in GROUPS.iter().filter(|g| g.0 != "scene" && g.0 != "leaves") {
+        let mut t = Tally::only_filled();
+        feed(group, &mut t, &mut Random::new(1), wanted * 4);
+        calls.extend(t.drain());
+    }
+    let (bytes, n) = record::file(calls, wanted);
+    std::fs::write(file, &bytes).expect("the file is written");
+    println!("{n} answers, {} bytes", bytes.len());
+}
+
+fn run(group: &str, n: usize, seed: u64) -> bool {
+    let mut t = Tally::new(open());
+    if !available(&mut t, group) {
+        println!("{group}: not there yet");
+        return true;
+    }
+    let began = std::time::Instant::now();
+    feed(group, &mut t, &mut Random::new(seed), n);
+    let same = t.report(group);
+    println!("  ({n} inputs, seed {seed}, {:.1} s)", began.elapsed().as_secs_f64());
+    same
+}
+
+fn compare(group: &str, n: usize, seed: u64) -> bool {
+    let names: Vec<&str> = GROUPS.iter().map(|g| g.0).filter(|g| group == "all" || group == *g).collect();
+    if names.is_empty() {
+        eprintln!("no group {group}");
+        std::process::exit(2);
+    }
+    println!("the port is {}", open().name());
+    names.iter().filter(|g| !run(g, n, seed)).count() == 0
+}
+
+fn number(word: &str) -> u64 {
+    word.parse().unwrap_or_else(|_| {
+        eprintln!("not a number: {word}");
+        std::process::exit(2)
+    })
+}
 
 fn main() {
+    // Refusal 7 is the source's `unreachable!`, caught; its message would drown the rest.
+    let quiet = std::panic::take_hook();
+    std::panic::set_hook(Box::new(move |info| {
+        if !info.to_string().contains("both loops contain a vertex of the other") {
+            quiet(info);
+        }
+    }));
     let words: Vec<String> = std::env::args().skip(1).collect();
-    match words.iter().map(String::as_str).collect::<Vec<_>>().as_slice() {
-        ["constants"] => constants::print(),
+    let words: Vec<&str> = words.iter().map(String::as_str).collect();
+    let same = match words.as_slice() {
+        ["constants"] => {
+            constants::print();
+            true
+        }
+        ["compare", group] => compare(group, 1000, 1),
+        ["compare", group, n] => compare(group, number(n) as usize, 1),
+        ["compare", group, n, seed] => compare(group, number(n) as usize, number(seed)),
+        ["record", file] => {
+            record(file, 200);
+            true
+        }
+        ["record", file, n] => {
+            record(file, number(n) as usize);
+            true
+        }
+        ["serve"] => {
+            port::serve();
+            true
+        }
+        ["mutants"] => mutants::run(&root().join("oracle"), ""),
+        ["mutants", word] => mutants::run(&root().join("oracle"), word),
+        ["bench"] => {
+            bench::bench();
+            true
+        }
+        ["groups"] => {
+            let mut t = Tally::new(open());
+            for (g, _) in GROUPS {
+                if available(&mut t, g) {
+                    println!("{g}");
+                }
+            }
+            true
+        }
         _ => {
-            eprintln!("host constants");
+            eprintln!("{USAGE}");
             std::process::exit(2);
         }
-    }
+    };
+    std::process::exit(i32::from(!same));
 }

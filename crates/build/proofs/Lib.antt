@@ -1,0 +1,4 @@
+pub mod Rooms
+pub mod Writes
+pub mod Outs
+pub mod Unique

@@ -1,0 +1,162 @@
+// Building a loop: from a lent list of positions to a header by value and a ring in lent slices, or a refusal that changes nothing.
+ghost use mathlib.Core.Path.{_≡_};
+ghost use mathlib.Core.List.{_++_};
+ghost use Prim.Native.Nat.{_*_, _≤_};
+ghost use lib.ListN.{length, drop};
+ghost use Rattle.cutting.specs.Cutting as C;
+ghost use Rattle.build.specs.Build as B;
+use angle::Angle;
+use cutting::Insides;
+use header::Header;
+use header::State;
+
+pub enum Built {
+    Refused(u8),
+    Loop(Header),
+}
+
+// Refusals 1 to 4 of a list.
+fn list_fault(list: &[f64]) -> u8
+    ensures { λ r. ⌜ r ≡ B.listFault (now (list .entry)) ⌝ }
+{
+    if list.len() % 3 != 0 {
+        return 1;
+    }
+    let m = list.len() / 3;
+    if m > 512 {
+        return 2;
+    }
+    judge::positions_fault(list, m)
+}
+
+// Refusal 5, by the opened count.
+fn room_fault(n: usize, positions: &[f64], normals: &[f64], classes: &[u8]) -> u8
+    requires { ⌜ n ≤ 512 ⌝ }
+    ensures { λ r. ⌜ r ≡ B.roomFault n (length (now (positions .entry))) (length (now (normals .entry))) (length (now (classes .entry))) ⌝ }
+{
+    let short = (positions.len() < 3 * n) | (normals.len() < 3 * n) | (classes.len() < n);
+    if (3 <= n) & short { 5 } else { 0 }
+}
+
+// The refusal of a list with the room that is lent for its ring.
+fn refusal_of(list: &[f64], positions: &[f64], normals: &[f64], classes: &[u8]) -> u8
+    ensures { λ r. ⌜ r ≡ B.refusal (now (list .entry)) (now (positions .entry)) (now (normals .entry)) (now (classes .entry)) ⌝ }
+{
+    let f = list_fault(list);
+    if f != 0 {
+        return f;
+    }
+    room_fault(
+        ring::opened(list, list.len() / 3),
+        positions,
+        normals,
+        classes,
+    )
+}
+
+// The edges' normals and the ring's classes into work arrays, and the turn sum.
+fn prepare(list: &[f64], n: usize, edges: &mut [f64], codes: &mut [u8]) -> Angle
+    requires { ⌜ (n ≤ 512) × (3 * n ≤ length (now list)) × (length (now edges) ≡ 3 * n) × (length (now codes) ≡ n) ⌝ }
+    ensures { λ r. ⌜ record { sum = r; edges = now (edges .exit); classes = now (codes .exit) } ≡ B.prepared (now (list .entry)) n ⌝ }
+{
+    ring::write_edge_normals(list, n, edges);
+    let sum = ring::turn_sum(list, edges, n);
+    ring::write_classes(list, edges, n, !sum.is_clockwise(), codes);
+    sum
+}
+
+fn copy_classes(from: &[u8], to: &mut [u8])
+    requires { ⌜ length (now from) ≤ length (now to) ⌝ }
+    ensures { λ _. ⌜ now (to .exit) ≡ now (from .entry) ++ drop (length (now (from .entry))) (now (to .entry)) ⌝ }
+{
+    for i in 0..from.len() {
+        to[i] = from[i];
+    }
+}
+
+// The insides of a ring: a triangle has none.
+fn insides_of(positions: &[f64], classes: &[u8]) -> Insides
+    requires { ⌜ C.Ring (now positions) (now classes) ⌝ }
+    ensures { λ r. ⌜ r ≡ B.insidesFor (now (positions .entry)) (now (classes .entry)) ⌝ }
+{
+    if classes.len() > 3 {
+        cutting::find_insides(positions, classes)
+    } else {
+        Insides::Absent
+    }
+}
+
+// The ring into the lent slices; answers its insides.
+fn write_ring(
+    list: &[f64],
+    edges: &[f64],
+    codes: &[u8],
+    n: usize,
+    reversed: bool,
+    positions: &mut [f64],
+    normals: &mut [f64],
+    classes: &mut [u8],
+) -> Insides
+    requires { ⌜ B.Ready (now list) n reversed (now edges) (now codes) (length (now positions)) (length (now normals)) (length (now classes)) ⌝ }
+    ensures { λ r. ⌜ record { insides = r; positions = now (positions .exit); normals = now (normals .exit); classes = now (classes .exit) } ≡ B.written (now (list .entry)) n reversed (now (positions .entry)) (now (normals .entry)) (now (classes .entry)) ⌝ }
+{
+    ring::write_corners(list, n, reversed, positions);
+    ring::write_normals(list, edges, n, reversed, normals);
+    copy_classes(codes, classes);
+    insides_of(&positions[..3 * n], codes)
+}
+
+// The loop of an opened list of three or more, with lent work arrays: nothing is written before FULL is ruled out.
+fn make(
+    list: &[f64],
+    n: usize,
+    edges: &mut [f64],
+    codes: &mut [u8],
+    positions: &mut [f64],
+    normals: &mut [f64],
+    classes: &mut [u8],
+) -> Header
+    requires { ⌜ B.Lent (now list) n (length (now edges)) (length (now codes)) (length (now positions)) (length (now normals)) (length (now classes)) ⌝ }
+    ensures { λ r. ⌜ record { header = r; positions = now (positions .exit); normals = now (normals .exit); classes = now (classes .exit) } ≡ B.made (now (list .entry)) n (now (positions .entry)) (now (normals .entry)) (now (classes .entry)) ⌝ }
+{
+    let sum = prepare(list, n, edges, codes);
+    if ring::all_both(codes) {
+        return header::full(sum.is_weak());
+    }
+    let reversed = !sum.is_clockwise();
+    let insides = write_ring(list, edges, codes, n, reversed, positions, normals, classes);
+    Header {
+        count: n,
+        state: State::Ring,
+        cap: cap::bounding_cap(list, n),
+        insides,
+        reversed,
+        weak: sum.is_weak(),
+    }
+}
+
+// Builds a loop. The work arrays hold what must not be written before FULL is ruled out.
+pub fn build(list: &[f64], positions: &mut [f64], normals: &mut [f64], classes: &mut [u8]) -> Built
+    ensures { λ r. ⌜ record { answer = B.told r; positions = now (positions .exit); normals = now (normals .exit); classes = now (classes .exit) } ≡ B.out (now (list .entry)) (now (positions .entry)) (now (normals .entry)) (now (classes .entry)) ⌝ }
+{
+    let f = refusal_of(list, positions, normals, classes);
+    if f != 0 {
+        return Built::Refused(f);
+    }
+    let n = ring::opened(list, list.len() / 3);
+    if n < 3 {
+        return Built::Loop(header::empty());
+    }
+    let size = 3 * n;
+    let mut edges = [0.0f64; 1536];
+    let mut codes = [0u8; 512];
+    Built::Loop(make(
+        list,
+        n,
+        &mut edges[..size],
+        &mut codes[..n],
+        positions,
+        normals,
+        classes,
+    ))
+}

@@ -1,0 +1,7 @@
+pub mod Firsts
+pub mod Lefts
+pub mod Turns
+pub mod Goings
+pub mod Seekings
+pub mod Relations
+pub mod Wholes

@@ -1,0 +1,230 @@
+// Cutting a ring ear by ear, as sloop.rs has it: into triangles of ring numbers, for two positions inside it, and along a list that is to be checked.
+// Work arrays of 512 entries hold the ring numbers and the classes of the ring left. Total on every float.
+ghost use mathlib.Core.Path.{_≡_};
+ghost use mathlib.Core.List.{_++_};
+ghost use Prim.Native.Nat.{_+_, _-_, _*_, _≤_, _<_};
+ghost use lib.ListN.{length, drop};
+ghost use lib.Seq.{sets};
+ghost use Rattle.rings.specs.Ring.{numbers, earOf};
+ghost use Rattle.ears.specs.Ears.{Lent, Remaining, Placed, triangleAt};
+ghost use Rattle.vec3.specs.declared.Point as Point;
+ghost use Rattle.cutting.specs.Cutting.{Ring, Work, wholeRing, cuttingFrom, Out, laid, outOf};
+ghost use Rattle.cutting.specs.Insides.{withMean, isBoth, meanOf, meansFrom, insidesFrom, insidesOf};
+use vec3::Point;
+use vec3::Vec3;
+
+// Two positions inside a ring, or none.
+pub enum Insides {
+    Absent,
+    Two(Vec3, Vec3),
+}
+
+// The means found so far.
+enum Found {
+    Nothing,
+    One(Vec3),
+    Both(Vec3, Vec3),
+}
+
+// 0, 1, 2 and so on.
+fn number(ids: &mut [u16])
+    requires { ⌜ length (now ids) ≤ 512 ⌝ }
+    ensures { λ _. ⌜ now (ids .exit) ≡ numbers (length (now (ids .entry))) ⌝ }
+{
+    for i in 0..ids.len() {
+        ids[i] = i as u16;
+    }
+}
+
+fn copy_classes(src: &[u8], dst: &mut [u8])
+    requires { ⌜ (length (now src) ≤ length (now dst)) × (length (now src) ≤ 512) ⌝ }
+    ensures { λ _. ⌜ now (dst .exit) ≡ now (src .entry) ++ drop (length (now (src .entry))) (now (dst .entry)) ⌝ }
+{
+    for i in 0..src.len() {
+        dst[i] = src[i];
+    }
+}
+
+fn copy_numbers(src: &[u16], dst: &mut [u16])
+    requires { ⌜ (length (now src) ≤ length (now dst)) × (length (now src) ≤ 1530) ⌝ }
+    ensures { λ _. ⌜ now (dst .exit) ≡ now (src .entry) ++ drop (length (now (src .entry))) (now (dst .entry)) ⌝ }
+{
+    for i in 0..src.len() {
+        dst[i] = src[i];
+    }
+}
+
+// Writes the triangle at place i as the one numbered t: previous, this, next.
+fn put_ear(ids: &[u16], i: usize, triangles: &mut [u16], t: usize)
+    requires { ⌜ (i < length (now ids)) × (length (now ids) ≤ 512) × (3 * t + 2 < length (now triangles)) ⌝ }
+    ensures { λ _. ⌜ now (triangles .exit) ≡ sets (now (triangles .entry)) (3 * t) (earOf (now (ids .entry)) i) ⌝ }
+{
+    let m = ids.len();
+    let a = ears::prior(m, i);
+    let b = ears::later(m, i);
+    triangles[3 * t] = ids[a];
+    triangles[3 * t + 1] = ids[i];
+    triangles[3 * t + 2] = ids[b];
+}
+
+// Cuts the lowest ear each time until three are left, and lays the triangles one after the other. False where a ring above three has no ear.
+fn cut_all(ps: &[f64], ids: &mut [u16], classes: &mut [u8], triangles: &mut [u16]) -> bool
+    requires { ⌜ Lent (now ps) (now ids) (now classes) × (3 ≤ length (now ids)) × (3 * (length (now ids) - 2) ≤ length (now triangles)) ⌝ }
+    ensures { λ r. ⌜ record { answer = r; out = now (triangles .exit) } ≡ laid (cuttingFrom (now (ps .entry)) (record { ids = now (ids .entry); classes = now (classes .entry) })) (now (triangles .entry)) ⌝ }
+{
+    let mut m = ids.len();
+    let mut t = 0;
+    while 3 < m {
+        let i = ears::lowest_ear(ps, &ids[..m], classes);
+        if i == m {
+            return false;
+        }
+        put_ear(&ids[..m], i, triangles, t);
+        ears::cut_one(ps, &mut ids[..m], classes, i);
+        m -= 1;
+        t += 1;
+    }
+    put_ear(&ids[..m], 1, triangles, t);
+    true
+}
+
+// The ring before any cut, in work places: its numbers, and a copy of its classes.
+fn start(classes: &[u8], ids: &mut [u16], work: &mut [u8])
+    requires { ⌜ (length (now ids) ≡ length (now classes)) × (length (now work) ≡ length (now classes)) × (length (now classes) ≤ 512) ⌝ }
+    ensures { λ _. ⌜ record { ids = now (ids .exit); classes = now (work .exit) } ≡ wholeRing (now (classes .entry)) ⌝ }
+{
+    number(ids);
+    copy_classes(classes, work);
+}
+
+// `cut_ring` with its work places, and room for the triangles until all are cut.
+fn cut_ring_in(
+    ps: &[f64],
+    classes: &[u8],
+    ids: &mut [u16],
+    work: &mut [u8],
+    triangles: &mut [u16],
+    out: &mut [u16],
+) -> bool
+    requires { ⌜ Work (now ps) (now classes) (now ids) (now work) × (length (now triangles) ≡ 3 * (length (now classes) - 2)) × (3 * (length (now classes) - 2) ≤ length (now out)) ⌝ }
+    ensures { λ r. ⌜ record { answer = r; out = now (out .exit) } ≡ outOf (now (ps .entry)) (now (classes .entry)) (now (out .entry)) ⌝ }
+{
+    start(classes, ids, work);
+    if cut_all(ps, ids, work, triangles) {
+        copy_numbers(triangles, out);
+        return true;
+    }
+    false
+}
+
+// Cuts a ring into triangles, the lowest ear each time. True: they stand first in `out`, and the rest of it is kept. False: a ring above three has no
+// ear, and `out` is untouched.
+pub fn cut_ring(positions: &[f64], classes: &[u8], out: &mut [u16]) -> bool
+    requires { ⌜ Ring (now positions) (now classes) × (3 * (length (now classes) - 2) ≤ length (now out)) ⌝ }
+    ensures { λ r. ⌜ record { answer = r; out = now (out .exit) } ≡ outOf (now (positions .entry)) (now (classes .entry)) (now (out .entry)) ⌝ }
+{
+    let n = classes.len();
+    let size = 3 * (n - 2);
+    let mut ids = [0u16; 512];
+    let mut work = [0u8; 512];
+    let mut triangles = [0u16; 1530];
+    cut_ring_in(
+        positions,
+        classes,
+        &mut ids[..n],
+        &mut work[..n],
+        &mut triangles[..size],
+        out,
+    )
+}
+
+fn with_position(f: Found, p: Vec3) -> Found
+    ensures { λ r. ⌜ r ≡ withMean f (Point.At p) ⌝ }
+{
+    match f {
+        Found::Nothing => Found::One(p),
+        Found::One(a) => Found::Both(a, p),
+        Found::Both(a, b) => Found::Both(a, b),
+    }
+}
+
+// The means found so far, with one more where there is one.
+fn with_mean(f: Found, p: Point) -> Found
+    ensures { λ r. ⌜ r ≡ withMean f p ⌝ }
+{
+    match p {
+        Point::Absent => f,
+        Point::At(v) => with_position(f, v),
+    }
+}
+
+fn is_both(f: Found) -> bool
+    ensures { λ r. ⌜ r ≡ isBoth f ⌝ }
+{
+    match f {
+        Found::Nothing => false,
+        Found::One(a) => false,
+        Found::Both(a, b) => true,
+    }
+}
+
+fn insides_from(f: Found) -> Insides
+    ensures { λ r. ⌜ r ≡ insidesFrom f ⌝ }
+{
+    match f {
+        Found::Nothing => Insides::Absent,
+        Found::One(a) => Insides::Absent,
+        Found::Both(a, b) => Insides::Two(a, b),
+    }
+}
+
+// The mean of the triangle at place i.
+fn mean_at(ps: &[f64], ids: &[u16], i: usize) -> Point
+    requires { ⌜ Placed (now ps) (now ids) × (i < length (now ids)) × (length (now ids) ≤ 512) ⌝ }
+    ensures { λ r. ⌜ r ≡ meanOf (triangleAt (now (ps .entry)) (now (ids .entry)) i) ⌝ }
+{
+    let t = ears::triangle_at(ps, ids, i);
+    t.previous.triangle_mean(t.this, t.next)
+}
+
+// Cuts the lowest ear each time until two means are found, three are left, or there is no ear.
+fn find_means(ps: &[f64], ids: &mut [u16], classes: &mut [u8]) -> Found
+    requires { ⌜ Lent (now ps) (now ids) (now classes) × (3 ≤ length (now ids)) ⌝ }
+    ensures { λ r. ⌜ r ≡ meansFrom (now (ps .entry)) (record { ids = now (ids .entry); classes = now (classes .entry) }) ⌝ }
+{
+    let mut m = ids.len();
+    let mut f = Found::Nothing;
+    while 3 < m {
+        let i = ears::lowest_ear(ps, &ids[..m], classes);
+        if i == m {
+            return f;
+        }
+        f = with_mean(f, mean_at(ps, &ids[..m], i));
+        if is_both(f) {
+            return f;
+        }
+        ears::cut_one(ps, &mut ids[..m], classes, i);
+        m -= 1;
+    }
+    with_mean(f, mean_at(ps, &ids[..m], 1))
+}
+
+// `find_insides` with its work places.
+fn find_insides_in(ps: &[f64], classes: &[u8], ids: &mut [u16], work: &mut [u8]) -> Insides
+    requires { ⌜ Work (now ps) (now classes) (now ids) (now work) ⌝ }
+    ensures { λ r. ⌜ r ≡ insidesOf (now (ps .entry)) (now (classes .entry)) ⌝ }
+{
+    start(classes, ids, work);
+    insides_from(find_means(ps, ids, work))
+}
+
+// The means of the first two cuts of a ring that have one, the last triangle included; without two, none.
+pub fn find_insides(positions: &[f64], classes: &[u8]) -> Insides
+    requires { ⌜ Ring (now positions) (now classes) ⌝ }
+    ensures { λ r. ⌜ r ≡ insidesOf (now (positions .entry)) (now (classes .entry)) ⌝ }
+{
+    let n = classes.len();
+    let mut ids = [0u16; 512];
+    let mut work = [0u8; 512];
+    find_insides_in(positions, classes, &mut ids[..n], &mut work[..n])
+}

@@ -1,0 +1,24 @@
+-- Ring numbers lent with their positions. Assumes nothing.
+use Prim.Native.Nat.{ℕ, _-_, _≤_, _<_}
+use mathlib.Core.Path.{_≡_, sym}
+use mathlib.Core.List.{List}
+use native.Mathlib.Omega.{arith}
+use lib.ListN.{length}
+use lib.Ieee.{Float}
+use Rattle.rings.specs.Ring.{without}
+use Rattle.rings.proofs.Withouts.{length-without, below-without}
+use Rattle.ears.specs.Ears.{Lent, Placed}
+
+module _ {ps : List Float} {ids classes : List ℕ} (l : Lent ps ids classes) where
+  pub placed : Placed ps ids
+  placed j h = omega (arith, l .below j h, l .whole)
+
+  -- with other classes
+  pub relent : {others : List ℕ} → length others ≡ length classes → Lent ps ids others
+  relent e = record { below = rw e (l .below); whole = rw e (l .whole); most = rw e (l .most); few = l .few }
+
+  -- without one number
+  pub lent-without : {i : ℕ} → i < length ids → Lent ps (without i ids) classes × (i ≤ length (without i ids))
+  lent-without {i} h =
+      let e = length-without i ids h in
+      (record { below = below-without i ids h (l .below); whole = l .whole; most = l .most; few = omega (arith, l .few) }, omega arith)

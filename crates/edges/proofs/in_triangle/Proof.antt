@@ -1,0 +1,14 @@
+use Rattle.edges.specs.Places.{inTriangle}
+use borrow.Author.Needs.{needs}
+use Rattle.edges.proofs.in_triangle.Statement.{statement}
+use Rattle.edges.proofs.in_triangle.Tie as tie
+
+pub in-triangle-spec : {M : Type 1} → statement M
+unfolding inTriangle
+in-triangle-spec =
+    tie.close
+    (tie.spec
+    (λ c κs. search needs)
+    (λ c. simp (← c .before .has-vertex .ensures, c .if1 .taken))
+    (λ c κs. search needs) (λ c κs. search needs) (λ c κs. search needs)
+    (λ c. let t = c .before .before .before in simp (← t .before .has-vertex .ensures, t .if1 .left, c .is-within3 .ensures, c .before .is-within2 .ensures, c .before .before .is-within .ensures)))

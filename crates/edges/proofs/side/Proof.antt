@@ -1,0 +1,13 @@
+use Rattle.edges.specs.Shapes.{sideAt}
+use borrow.Author.Needs.{needs}
+use Rattle.edges.proofs.side.Statement.{statement}
+use Rattle.edges.proofs.side.Tie as tie
+
+pub side-spec : {M : Type 1} → statement M
+unfolding sideAt
+side-spec =
+    tie.close
+    (tie.spec
+    (λ c. search needs) (λ c. search needs) (λ c κs. search needs) (λ c κs. search needs) (λ c. search needs)
+    (λ c κs. search needs) (λ c κs. search needs) (λ c κs. search needs) (λ c κs. search needs)
+    (λ c. let t = c .before .before .before in simp (c .side-of .ensures, c .before .at3 .ensures, c .before .before .at2 .ensures, t .wrap2 .ensures .0, t .before .at .ensures, t .before .before .wrap .ensures .0)))

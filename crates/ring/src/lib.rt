@@ -1,0 +1,203 @@
+// What a ring is made of, from an opened list of positions: edges, the turn sum, and the corners, normals and classes in clockwise order.
+// Total on every float; `requires` for indexes and lengths alone.
+ghost use mathlib.Core.Path.{_≡_};
+ghost use mathlib.Core.Bool.{Bool};
+ghost use mathlib.Core.List.{_++_};
+ghost use Prim.Native.Nat.{_+_, _-_, _*_, _%_, _≤_, _<_};
+ghost use lib.ListN.{length, drop};
+ghost use lib.Seq.{sets};
+ghost use Rattle.vec3.specs.Vec.{coords};
+ghost use Rattle.ring.specs.Ring as R;
+use angle::Angle;
+use vec3::Vec3;
+
+// How many of m positions are left when the closing one, equal to the first, is taken off.
+pub fn opened(list: &[f64], m: usize) -> usize
+    requires { ⌜ 3 * m ≤ length (now list) ⌝ }
+    ensures { λ r. ⌜ r ≡ R.opened (now (list .entry)) m ⌝ }
+{
+    if m == 0 {
+        return 0;
+    }
+    if vec3::at(list, 0).equals(vec3::at(list, m - 1)) {
+        m - 1
+    } else {
+        m
+    }
+}
+
+// The place after i, counted round.
+fn next(i: usize, n: usize) -> usize
+    requires { ⌜ (i < n) × (n ≤ 512) ⌝ }
+    ensures { λ r. ⌜ (r ≡ (i + 1) % n) × (r < n) ⌝ }
+{
+    (i + 1) % n
+}
+
+// The place before i, counted round.
+fn previous(i: usize, n: usize) -> usize
+    requires { ⌜ (i < n) × (n ≤ 512) ⌝ }
+    ensures { λ r. ⌜ (r ≡ (i + n - 1) % n) × (r < n) ⌝ }
+{
+    (i + n - 1) % n
+}
+
+// A vector of a list of our own, as it stands.
+fn raw(vs: &[f64], i: usize) -> Vec3
+    requires { ⌜ 3 * i + 2 < length (now vs) ⌝ }
+    ensures { λ r. ⌜ r ≡ R.rawAt (now (vs .entry)) i ⌝ }
+{
+    Vec3 {
+        x: vs[3 * i],
+        y: vs[3 * i + 1],
+        z: vs[3 * i + 2],
+    }
+}
+
+// The normal of the edge from position i to the next.
+fn edge_normal(list: &[f64], n: usize, i: usize) -> Vec3
+    requires { ⌜ (i < n) × (n ≤ 512) × (3 * n ≤ length (now list)) ⌝ }
+    ensures { λ r. ⌜ r ≡ R.edgeNormal (now (list .entry)) n i ⌝ }
+{
+    vec3::at(list, i).orthogonal_to(vec3::at(list, next(i, n)))
+}
+
+// The normals of all edges, in the order given, into a work array.
+pub fn write_edge_normals(list: &[f64], n: usize, work: &mut [f64])
+    requires { ⌜ (n ≤ 512) × (3 * n ≤ length (now list)) × (length (now work) ≡ 3 * n) ⌝ }
+    ensures { λ _. ⌜ now (work .exit) ≡ R.edgeNormals (now (list .entry)) n ⌝ }
+{
+    for i in 0..n {
+        vec3::put(work, i, edge_normal(list, n, i));
+    }
+}
+
+// The normal of edge i, out of the work array. The list stands here for what the array holds.
+fn edge(list: &[f64], edges: &[f64], n: usize, i: usize) -> Vec3
+    requires { ⌜ (i < n) × (n ≤ 512) × (now edges ≡ R.edgeNormals (now list) n) ⌝ }
+    ensures { λ r. ⌜ r ≡ R.edgeNormal (now (list .entry)) n i ⌝ }
+{
+    raw(edges, i)
+}
+
+// The turn from edge i to the next edge.
+fn turn(list: &[f64], edges: &[f64], n: usize, i: usize) -> Angle
+    requires { ⌜ (i < n) × (n ≤ 512) × (3 * n ≤ length (now list)) × (now edges ≡ R.edgeNormals (now list) n) ⌝ }
+    ensures { λ r. ⌜ r ≡ R.turnAt (now (list .entry)) n i ⌝ }
+{
+    let j = next(i, n);
+    base::turning_angle(
+        edge(list, edges, n, i),
+        edge(list, edges, n, j),
+        vec3::at(list, j),
+    )
+}
+
+// The sum of all turns, from the second edge on, the last turn last.
+pub fn turn_sum(list: &[f64], edges: &[f64], n: usize) -> Angle
+    requires { ⌜ (n ≤ 512) × (3 * n ≤ length (now list)) × (now edges ≡ R.edgeNormals (now list) n) ⌝ }
+    ensures { λ r. ⌜ r ≡ R.turnSum (now (list .entry)) n ⌝ }
+{
+    let mut sum = Angle::ZERO;
+    for i in 0..n {
+        sum = sum.add(turn(list, edges, n, i));
+    }
+    sum
+}
+
+// The place in the list of the ring's corner k: the list is kept, or exactly reversed.
+fn corner_source(n: usize, reversed: bool, k: usize) -> usize
+    requires { ⌜ (k < n) × (n ≤ 512) ⌝ }
+    ensures { λ r. ⌜ (r ≡ R.cornerSource n reversed k) × (r < n) ⌝ }
+{
+    if reversed { n - 1 - k } else { k }
+}
+
+// The ring's corner k.
+fn corner(list: &[f64], n: usize, reversed: bool, k: usize) -> Vec3
+    requires { ⌜ (k < n) × (n ≤ 512) × (3 * n ≤ length (now list)) ⌝ }
+    ensures { λ r. ⌜ r ≡ R.cornerAt (now (list .entry)) n reversed k ⌝ }
+{
+    vec3::at(list, corner_source(n, reversed, k))
+}
+
+// The place in the list of the edge that, walked the other way, goes from corner k of the reversed list on.
+fn opposite_source(n: usize, k: usize) -> usize
+    requires { ⌜ (k < n) × (n ≤ 512) ⌝ }
+    ensures { λ r. ⌜ (r ≡ (2 * n - 2 - k) % n) × (r < n) ⌝ }
+{
+    (2 * n - 2 - k) % n
+}
+
+// The normal of the edge from corner k on: the edge's own, or of the edge walked the other way its negation.
+fn ring_normal(list: &[f64], edges: &[f64], n: usize, reversed: bool, k: usize) -> Vec3
+    requires { ⌜ (k < n) × (n ≤ 512) × (now edges ≡ R.edgeNormals (now list) n) ⌝ }
+    ensures { λ r. ⌜ r ≡ R.normalAt (now (list .entry)) n reversed k ⌝ }
+{
+    if reversed {
+        edge(list, edges, n, opposite_source(n, k)).neg()
+    } else {
+        edge(list, edges, n, k)
+    }
+}
+
+// The class code for the product of the previous corner with an edge's normal: 0 convex, 1 reflex, 2 both.
+fn class_by(product: f64) -> u8
+    ensures { λ r. ⌜ r ≡ R.classBy product ⌝ }
+{
+    if numbers::eq_zero(product) {
+        return 2;
+    }
+    if product < 0.0 { 0 } else { 1 }
+}
+
+// The class of corner k, by the side of the previous edge's start against the edge from here.
+fn class(list: &[f64], edges: &[f64], n: usize, reversed: bool, k: usize) -> u8
+    requires { ⌜ (k < n) × (n ≤ 512) × (3 * n ≤ length (now list)) × (now edges ≡ R.edgeNormals (now list) n) ⌝ }
+    ensures { λ r. ⌜ r ≡ R.classAt (now (list .entry)) n reversed k ⌝ }
+{
+    let before = corner(list, n, reversed, previous(k, n));
+    class_by(before.dot_prod(ring_normal(list, edges, n, reversed, k)))
+}
+
+// The ring's classes, into a work array.
+pub fn write_classes(list: &[f64], edges: &[f64], n: usize, reversed: bool, out: &mut [u8])
+    requires { ⌜ (n ≤ 512) × (3 * n ≤ length (now list)) × (now edges ≡ R.edgeNormals (now list) n) × (length (now out) ≡ n) ⌝ }
+    ensures { λ _. ⌜ now (out .exit) ≡ R.classesOf (now (list .entry)) n reversed ⌝ }
+{
+    for k in 0..n {
+        out[k] = class(list, edges, n, reversed, k);
+    }
+}
+
+// Whether every class is both.
+pub fn all_both(classes: &[u8]) -> bool
+    ensures { λ r. ⌜ r ≡ R.allBoth (now (classes .entry)) ⌝ }
+{
+    for k in 0..classes.len() {
+        if classes[k] != 2 {
+            return false;
+        }
+    }
+    true
+}
+
+// The ring's corners, into the front of a lent list.
+pub fn write_corners(list: &[f64], n: usize, reversed: bool, out: &mut [f64])
+    requires { ⌜ (n ≤ 512) × (3 * n ≤ length (now list)) × (3 * n ≤ length (now out)) ⌝ }
+    ensures { λ _. ⌜ now (out .exit) ≡ R.ringOf (now (list .entry)) n reversed ++ drop (3 * n) (now (out .entry)) ⌝ }
+{
+    for k in 0..n {
+        vec3::put(out, k, corner(list, n, reversed, k));
+    }
+}
+
+// The ring's normals, into the front of a lent list.
+pub fn write_normals(list: &[f64], edges: &[f64], n: usize, reversed: bool, out: &mut [f64])
+    requires { ⌜ (n ≤ 512) × (now edges ≡ R.edgeNormals (now list) n) × (3 * n ≤ length (now out)) ⌝ }
+    ensures { λ _. ⌜ now (out .exit) ≡ R.normalsOf (now (list .entry)) n reversed ++ drop (3 * n) (now (out .entry)) ⌝ }
+{
+    for k in 0..n {
+        vec3::put(out, k, ring_normal(list, edges, n, reversed, k));
+    }
+}

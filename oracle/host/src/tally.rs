@@ -1,0 +1,240 @@
+//! Puts calls to both sides, compares, and counts.
+use crate::calls::{Answer, Arg, Call, Export, by_model};
+use crate::port::Port;
+use std::collections::BTreeMap;
+
+/// Differences that are printed whole.
+const SHOWN: u64 = 5;
+/// Bytes of arguments after which a batch is sent.
+const BATCH: usize = 1 << 20;
+
+pub struct Tally {
+    port: Option<Port>,
+    waiting: Vec<(Call, String)>,
+    size: usize,
+    pub kinds: BTreeMap<String, u64>,
+    pub notes: BTreeMap<String, u64>,
+    pub compared: u64,
+    pub differences: u64,
+    differing: BTreeMap<String, u64>,
+    pub farthest: f64,
+}
+
+const REFUSED: u64 = 65_536;
+
+fn kind_of(call: &Call, a: &Answer) -> String {
+    let name = format!("{:?}", call.export);
+    match call.export {
+        Export::Root | Export::Atan2 => name,
+        Export::LeafVec | Export::LeafNumber => format!("{name} {}", call.args[0].word()),
+        Export::LeafCase => format!("{name} {} = {}", call.args[0].word(), a.value),
+        Export::Scene => name,
+        _ if a.value >= REFUSED => format!("{name} refused {}", a.value - REFUSED),
+        Export::Build | Export::BuildF64 => format!("{name} {}", header_kind(&a.outs[0])),
+        Export::Triangles | Export::TrianglesF64 => {
+            format!("{name} {}", if a.value == 0 { "none" } else { "some" })
+        }
+        _ => format!("{name} = {}", a.value),
+    }
+}
+
+fn header_kind(h: &[u8]) -> String {
+    let count = u16::from_le_bytes([h[0], h[1]]);
+    let state = match h[2] {
+        0 => "empty",
+        1 => "full",
+        _ if count > 3 && h[3] & 4 == 0 => "mute",
+        _ => "ring",
+    };
+    let turned = if h[3] & 1 != 0 { " reversed" } else { " kept" };
+    let weak = if h[3] & 2 != 0 { " weak" } else { " steady" };
+    format!("{state}{turned}{weak}")
+}
+
+/// Bits of a NaN are nobody's promise: every NaN counts as one.
+fn one_nan(bytes: &[u8]) -> Vec<u64> {
+    bytes
+        .chunks(8)
+        .map(|c| {
+            let bits = u64::from_le_bytes(c.try_into().unwrap());
+            if f64::from_bits(bits).is_nan() { model::leaves::NAN } else { bits }
+        })
+        .collect()
+}
+
+fn same(call: &Call, ours: &Answer, port: &Answer) -> bool {
+    match call.export {
+        Export::LeafVec | Export::LeafCap => {
+            let (a, b) = (&ours.outs[0], &port.outs[0]);
+            ours.value == port.value && a.len() == b.len() && one_nan(a) == one_nan(b)
+        }
+        _ => ours == port,
+    }
+}
+
+/// Whether an argument of an arctangent is a zero or an infinity, and none a NaN.
+fn exact(args: &[Arg]) -> bool {
+    let f: Vec<f64> = args.iter().map(|a| f64::from_bits(a.word())).collect();
+    f.iter().any(|x| *x == 0.0 || x.is_infinite()) && !f.iter().any(|x| x.is_nan())
+}
+
+fn show_arg(a: &Arg) -> String {
+    match a {
+        Arg::Floats(f) => {
+            let words: Vec<String> = f.iter().map(|x| format!("{:016X}", x.to_bits())).collect();
+            format!("floats {}", words.join(" "))
+        }
+        Arg::Bytes(b) => {
+            let hex: String = b.iter().map(|x| format!("{x:02X}")).collect();
+            format!("bytes {} {hex}", b.len())
+        }
+        Arg::OutBytes(b) => format!("out of {} bytes", b.len()),
+        Arg::OutFloats(b) => format!("out of {} floats", b.len()),
+        Arg::OutShorts(b) => format!("out of {} u16", b.len()),
+        Arg::Int(w) => format!("{w}"),
+        Arg::Word(w) => format!("{w:016X}"),
+        Arg::Float(f) => format!("{:016X}", f.to_bits()),
+    }
+}
+
+fn cut(mut s: String) -> String {
+    const MOST: usize = 1200;
+    if s.len() > MOST {
+        let rest = s.len() - MOST;
+        s.truncate(MOST);
+        s.push_str(&format!(".. {rest} more"));
+    }
+    s
+}
+
+impl Tally {
+    pub fn new(port: Port) -> Self {
+        let mut t = Tally::only_filled();
+        t.port = Some(port);
+        t
+    }
+
+    /// One that only gathers calls, to be recorded.
+    pub fn only_filled() -> Self {
+        Tally {
+            port: None,
+            waiting: Vec::new(),
+            size: 0,
+            kinds: BTreeMap::new(),
+            notes: BTreeMap::new(),
+            compared: 0,
+            differences: 0,
+            differing: BTreeMap::new(),
+            farthest: 0.0,
+        }
+    }
+
+    pub fn has(&mut self, e: Export) -> bool {
+        self.port.as_mut().is_none_or(|p| p.has(e))
+    }
+
+    /// The calls gathered so far.
+    pub fn drain(&mut self) -> Vec<Call> {
+        std::mem::take(&mut self.waiting).into_iter().map(|w| w.0).collect()
+    }
+
+    /// Counts something that is worth knowing of the inputs.
+    pub fn note(&mut self, what: &str) {
+        *self.notes.entry(what.to_string()).or_default() += 1;
+    }
+
+    pub fn put(&mut self, export: Export, args: Vec<Arg>) {
+        self.put_as(export, args, "");
+    }
+
+    /// A call, with a word on where it came from, for a difference's report.
+    pub fn put_as(&mut self, export: Export, args: Vec<Arg>, from: &str) {
+        self.size += 64 + args.iter().map(|a| a.bytes().map_or(8, |b| b.len())).sum::<usize>();
+        self.waiting.push((Call { export, args }, from.to_string()));
+        if self.size > BATCH && self.port.is_some() {
+            self.flush();
+        }
+    }
+
+    pub fn flush(&mut self) {
+        let Some(port) = &mut self.port else { return };
+        let waiting = std::mem::take(&mut self.waiting);
+        self.size = 0;
+        let calls: Vec<Call> = waiting.iter().map(|w| w.0.clone()).collect();
+        let answers = port.run(&calls);
+        for ((call, from), port) in waiting.iter().zip(answers) {
+            let Some(port) = port else { continue };
+            self.compare(call, from, &port);
+        }
+    }
+
+    fn compare(&mut self, call: &Call, from: &str, port: &Answer) {
+        let ours = by_model(call);
+        self.compared += 1;
+        *self.kinds.entry(kind_of(call, &ours)).or_default() += 1;
+        self.measure(call, port);
+        if !same(call, &ours, port) {
+            self.differ(call, from, &ours, port);
+        }
+    }
+
+    /// How far the port's angles are from the Rust's own: absolute, where both are finite.
+    fn measure(&mut self, call: &Call, port: &Answer) {
+        let rust = match (call.export, call.args.as_slice()) {
+            (Export::Atan2, [y, x]) => f64::from_bits(y.word()).atan2(f64::from_bits(x.word())),
+            (Export::LeafNumber, [Arg::Int(7), Arg::Floats(f)]) => model::leaves::rust_turning(f),
+            _ => return,
+        };
+        let ours = f64::from_bits(port.value);
+        if call.export == Export::Atan2 && exact(&call.args) && ours.to_bits() != rust.to_bits() {
+            let rust = Answer { value: rust.to_bits(), outs: Vec::new() };
+            self.differ(call, "not the Rust's bits at a zero or an infinity", &rust, port);
+        }
+        if !(rust.is_finite() && ours.is_finite()) {
+            return;
+        }
+        let off = (ours - rust).abs();
+        self.farthest = self.farthest.max(off);
+        if off > 2.0_f64.powi(-45) {
+            let rust = Answer { value: rust.to_bits(), outs: Vec::new() };
+            self.differ(call, "farther than 2^-45 from the Rust's", &rust, port);
+        }
+    }
+
+    pub fn differ(&mut self, call: &Call, from: &str, ours: &Answer, port: &Answer) {
+        self.differences += 1;
+        *self.differing.entry(kind_of(call, ours)).or_default() += 1;
+        if self.differences > SHOWN {
+            return;
+        }
+        println!("DIFFERENCE {} in {:?} {from}", self.differences, call.export);
+        for a in &call.args {
+            println!("  {}", cut(show_arg(a)));
+        }
+        println!("  expected {:X}, the port says {:X}", ours.value, port.value);
+        for (i, (a, b)) in ours.outs.iter().zip(&port.outs).enumerate() {
+            if let Some(at) = (0..a.len()).find(|k| a[*k] != b[*k]) {
+                let end = (at / 8 * 8 + 8).min(a.len());
+                let (x, y) = (&a[at / 8 * 8..end], &b[at / 8 * 8..end]);
+                println!("  output {i} differs from byte {at} on: expected {x:02X?}, got {y:02X?}");
+            }
+        }
+    }
+
+    /// Prints the counts; returns whether all was the same.
+    pub fn report(&mut self, group: &str) -> bool {
+        self.flush();
+        println!("{group}: {} compared, {} differences", self.compared, self.differences);
+        for (k, n) in &self.kinds {
+            let off = self.differing.get(k).map_or(String::new(), |d| format!(" ({d} DIFFER)"));
+            println!("  {k}: {n}{off}");
+        }
+        for (k, n) in &self.notes {
+            println!("  ({k}: {n})");
+        }
+        if self.farthest > 0.0 {
+            println!("  (farthest angle from the Rust's: 2^{:.2})", self.farthest.log2());
+        }
+        self.differences == 0
+    }
+}

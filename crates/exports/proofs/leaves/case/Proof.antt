@@ -27,4 +27,5 @@ case-spec =
     (λ c. simp (c .before .before .before .match .keys8, c .yes7 .ensures, c .before .contains-position .ensures, c .before .before .cap-of .ensures))
     (λ c. simp (c .before .before .before .before .match .keys9, c .yes8 .ensures, c .before .intersects .ensures, c .before .before .cap-of3 .ensures, c .before .before .before .cap-of2 .ensures))
     (λ c. simp (c .before .before .match .keys10, c .present .ensures, c .before .triangle-mean .ensures))
-    (λ c. let a = c .before .args in sym (List·getD-eq-default (cases (a .a) (a .b) (a .c)) 0 {n = a .op} (past 10 (a .op) (c .match .rest)))))
+    (λ c. let a = c .before .args in
+    sym (List·getD-eq-default (cases (a .a) (a .b) (a .c)) 0 {n = a .op} (past 10 (a .op) (c .match .rest)))))

@@ -14,4 +14,6 @@ leaf-cap-spec =
     (λ c κs. search needs)
     (λ c. simp (eq-eqb _ _ (c .before .before .if1 .left), lt-ltb _ _ (c .before .if2 .taken), c .refusal2 .ensures))
     (λ c κs. search needs) (λ c κs. search needs) (λ c. search needs) (λ c. search needs)
-    (λ c. let p = c .before .before in let b = p .before .before in simp (eq-eqb _ _ (b .before .before .if1 .left), le-ltb _ _ (b .before .if2 .left), p .put .ensures, b .bounding-cap .ensures)))
+    (λ c. let p = c .before .before in
+    let b = p .before .before in
+    simp (eq-eqb _ _ (b .before .before .if1 .left), le-ltb _ _ (b .before .if2 .left), p .put .ensures, b .bounding-cap .ensures)))

@@ -14,4 +14,5 @@ leaf-case-spec =
     (λ c κs. search needs)
     (λ c. simp (le-ltb _ _ (c .before .before .if1 .left), le-leb _ _ (c .before .if2 .taken), c .refusal2 .ensures))
     (λ c κs. search needs) (λ c κs. search needs) (λ c κs. search needs) (λ c κs. search needs)
-    (λ c. let e = c .before .before .before .before in simp (le-ltb _ _ (e .before .if1 .left), lt-leb _ _ (e .if2 .left), c .case .ensures, c .before .raw3 .ensures, c .before .before .raw2 .ensures, c .before .before .before .raw .ensures)))
+    (λ c. let e = c .before .before .before .before in
+    simp (le-ltb _ _ (e .before .if1 .left), lt-leb _ _ (e .if2 .left), c .case .ensures, c .before .raw3 .ensures, c .before .before .raw2 .ensures, c .before .before .before .raw .ensures)))

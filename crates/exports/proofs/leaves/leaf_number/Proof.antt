@@ -13,4 +13,6 @@ leaf-number-spec =
     (λ c. simp (le-ltb _ _ (c .before .if1 .left), le-leb _ _ (c .if2 .taken)))
     (λ c κs. search needs) (λ c κs. search needs) (λ c κs. search needs) (λ c κs. search needs)
     (λ c κs. search needs)
-    (λ c. let n = c .before in let e = n .before .before .before .before in simp (le-ltb _ _ (e .before .if1 .left), lt-leb _ _ (e .if2 .left), c .to-bits .ensures, n .number .ensures, n .before .raw3 .ensures, n .before .before .raw2 .ensures, n .before .before .before .raw .ensures)))
+    (λ c. let n = c .before in
+    let e = n .before .before .before .before in
+    simp (le-ltb _ _ (e .before .if1 .left), lt-leb _ _ (e .if2 .left), c .to-bits .ensures, n .number .ensures, n .before .raw3 .ensures, n .before .before .raw2 .ensures, n .before .before .before .raw .ensures)))

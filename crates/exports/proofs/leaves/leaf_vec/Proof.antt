@@ -14,4 +14,7 @@ leaf-vec-spec =
     (λ c. simp (le-ltb _ _ (c .before .before .if1 .left), lt-leb _ _ (c .before .if2 .left), lt-ltb _ _ (c .if3 .taken)))
     (λ c κs. search needs) (λ c κs. search needs) (λ c κs. search needs) (λ c κs. search needs)
     (λ c κs. search needs) (λ c. search needs)
-    (λ c. let p = c .before .before in let v = p .before in let e = v .before .before .before .before .before in simp (le-ltb _ _ (e .before .before .if1 .left), lt-leb _ _ (e .before .if2 .left), le-ltb _ _ (e .if3 .left), p .put .ensures, v .vector .ensures, v .before .raw3 .ensures, v .before .before .raw2 .ensures, v .before .before .before .raw .ensures)))
+    (λ c. let p = c .before .before in
+    let v = p .before in
+    let e = v .before .before .before .before .before in
+    simp (le-ltb _ _ (e .before .before .if1 .left), lt-leb _ _ (e .before .if2 .left), le-ltb _ _ (e .if3 .left), p .put .ensures, v .vector .ensures, v .before .raw3 .ensures, v .before .before .raw2 .ensures, v .before .before .before .raw .ensures)))

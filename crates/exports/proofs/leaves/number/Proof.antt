@@ -23,4 +23,5 @@ number-spec =
     (λ c. simp (c .before .match .keys6, c .sine .ensures))
     (λ c. simp (c .before .match .keys7, c .dot-prod2 .ensures))
     (λ c. simp (c .before .match .keys8, c .turning-angle .ensures))
-    (λ c. let a = c .before .args in quotient ∙ sym (List·getD-eq-default (numbers (a .a) (a .b) (a .c)) nan {n = a .op} (past 8 (a .op) (c .match .rest)))))
+    (λ c. let a = c .before .args in
+    quotient ∙ sym (List·getD-eq-default (numbers (a .a) (a .b) (a .c)) nan {n = a .op} (past 8 (a .op) (c .match .rest)))))

@@ -30,4 +30,5 @@ vector-spec =
     (λ c. simp (c .before .match .keys12, c .scale .ensures))
     (λ c. simp (c .before .before .match .keys13, c .point-or .ensures, c .before .triangle-mean .ensures))
     (λ c. simp (c .before .before .match .keys14, c .point-or2 .ensures, c .before .midpoint .ensures))
-    (λ c. let a = c .before .args in sym (List·getD-eq-default (vectors (a .a) (a .b) (a .c)) origin {n = a .op} (past 14 (a .op) (c .match .rest)))))
+    (λ c. let a = c .before .args in
+    sym (List·getD-eq-default (vectors (a .a) (a .b) (a .c)) origin {n = a .op} (past 14 (a .op) (c .match .rest)))))

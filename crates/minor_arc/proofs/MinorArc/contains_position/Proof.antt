@@ -9,5 +9,6 @@ contains-position-spec =
     tie.close
     (tie.spec
     (λ c κs. search needs) (λ c κs. search needs) (λ c κs. search needs) (λ c κs. search needs)
-    (λ c. let e = c .before .before .before in simp (← e .before .dot-prod .ensures, ← e .eq-zero .ensures, c .before .before .if1 .taken, c .is-within .ensures, c .before .location .ensures))
+    (λ c. let e = c .before .before .before in
+    simp (← e .before .dot-prod .ensures, ← e .eq-zero .ensures, c .before .before .if1 .taken, c .is-within .ensures, c .before .location .ensures))
     (λ c. simp (← c .before .before .dot-prod .ensures, ← c .before .eq-zero .ensures, c .if1 .left)))

@@ -10,5 +10,7 @@ side-of-spec =
     (tie.spec
     (λ c κs. search needs) (λ c κs. search needs)
     (λ c. simp (← c .before .before .dot-prod .ensures, ← c .before .eq-zero .ensures, c .if1 .taken))
-    (λ c. let e = c .before .before in simp (← e .before .dot-prod .ensures, ← e .eq-zero .ensures, c .before .if1 .left, c .if2 .taken))
-    (λ c. let e = c .before .before in simp (← e .before .dot-prod .ensures, ← e .eq-zero .ensures, c .before .if1 .left, c .if2 .left)))
+    (λ c. let e = c .before .before in
+    simp (← e .before .dot-prod .ensures, ← e .eq-zero .ensures, c .before .if1 .left, c .if2 .taken))
+    (λ c. let e = c .before .before in
+    simp (← e .before .dot-prod .ensures, ← e .eq-zero .ensures, c .before .if1 .left, c .if2 .left)))

@@ -10,4 +10,5 @@ arc-fault-spec =
     (tie.spec
     (λ c κs. search needs) (λ c κs. search needs) (λ c κs. search needs) (λ c κs. search needs)
     (λ c κs. search needs)
-    (λ c. let e = c .before .before in simp (c .first2 .ensures, c .before .vector-fault .ensures, e .first .ensures, e .before .fault2 .ensures, e .before .before .fault .ensures)))
+    (λ c. let e = c .before .before in
+    simp (c .first2 .ensures, c .before .vector-fault .ensures, e .first .ensures, e .before .fault2 .ensures, e .before .before .fault .ensures)))

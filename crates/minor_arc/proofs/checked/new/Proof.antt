@@ -11,6 +11,10 @@ new-spec =
     (tie.spec
     (λ c κs. search needs) (λ c κs. search needs) (λ c κs. search needs) (λ c κs. search needs)
     (λ c κs. search needs)
-    (λ c. let q = c .before in let k = q .before .before .before in judged-hit _ (simp (q .before .fault2 .ensures, q .before .before .fault .ensures, k .clear2 .ensures, k .before .clear .ensures) at (q .first .ensures)) (c .if1 .taken))
+    (λ c. let q = c .before in
+    let k = q .before .before .before in
+    judged-hit _ (simp (q .before .fault2 .ensures, q .before .before .fault .ensures, k .clear2 .ensures, k .before .clear .ensures) at (q .first .ensures)) (c .if1 .taken))
     (λ c κs. search needs)
-    (λ c. let q = c .before .before in let k = q .before .before .before in judged-none _ (simp (q .before .fault2 .ensures, q .before .before .fault .ensures, k .clear2 .ensures, k .before .clear .ensures) at (q .first .ensures)) (c .before .if1 .left) (simp (c .new .ensures, k .clear2 .ensures, k .before .clear .ensures))))
+    (λ c. let q = c .before .before in
+    let k = q .before .before .before in
+    judged-none _ (simp (q .before .fault2 .ensures, q .before .before .fault .ensures, k .clear2 .ensures, k .before .clear .ensures) at (q .first .ensures)) (c .before .if1 .left) (simp (c .new .ensures, k .clear2 .ensures, k .before .clear .ensures))))

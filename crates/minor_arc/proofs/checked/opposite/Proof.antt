@@ -10,6 +10,8 @@ opposite-spec =
     tie.close
     (tie.spec
     (λ c κs. search needs) (λ c κs. search needs)
-    (λ c. let q = c .before in judged-hit _ (simp (q .before .read .ensures) at (q .arc-fault .ensures)) (c .if1 .taken))
+    (λ c. let q = c .before in
+    judged-hit _ (simp (q .before .read .ensures) at (q .arc-fault .ensures)) (c .if1 .taken))
     (λ c κs. search needs)
-    (λ c. let q = c .before .before in judged-none _ (simp (q .before .read .ensures) at (q .arc-fault .ensures)) (c .before .if1 .left) (simp (c .opposite .ensures, q .before .read .ensures))))
+    (λ c. let q = c .before .before in
+    judged-none _ (simp (q .before .read .ensures) at (q .arc-fault .ensures)) (c .before .if1 .left) (simp (c .opposite .ensures, q .before .read .ensures))))

@@ -10,6 +10,8 @@ relate-spec =
     tie.close
     (tie.spec
     (λ c κs. search needs) (λ c κs. search needs) (λ c κs. search needs)
-    (λ c. let q = c .before in judged-hit _ (simp (q .before .before .read .ensures, q .before .read2 .ensures) at (q .pair-fault .ensures)) (c .if1 .taken))
+    (λ c. let q = c .before in
+    judged-hit _ (simp (q .before .before .read .ensures, q .before .read2 .ensures) at (q .pair-fault .ensures)) (c .if1 .taken))
     (λ c κs. search needs) (λ c κs. search needs)
-    (λ c. let q = c .before .before .before in judged-none _ (simp (q .before .before .read .ensures, q .before .read2 .ensures) at (q .pair-fault .ensures)) (c .before .before .if1 .left) (simp (c .before .relate .ensures, q .before .before .read .ensures, q .before .read2 .ensures) at (c .tell-relation .ensures))))
+    (λ c. let q = c .before .before .before in
+    judged-none _ (simp (q .before .before .read .ensures, q .before .read2 .ensures) at (q .pair-fault .ensures)) (c .before .before .if1 .left) (simp (c .before .relate .ensures, q .before .before .read .ensures, q .before .read2 .ensures) at (c .tell-relation .ensures))))

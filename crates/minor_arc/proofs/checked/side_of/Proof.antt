@@ -10,6 +10,8 @@ side-of-spec =
     tie.close
     (tie.spec
     (λ c κs. search needs) (λ c κs. search needs) (λ c κs. search needs)
-    (λ c. let q = c .before in judged-hit _ (simp (q .before .before .read .ensures, q .before .clear .ensures) at (q .query-fault .ensures)) (c .if1 .taken))
+    (λ c. let q = c .before in
+    judged-hit _ (simp (q .before .before .read .ensures, q .before .clear .ensures) at (q .query-fault .ensures)) (c .if1 .taken))
     (λ c κs. search needs) (λ c κs. search needs)
-    (λ c. let q = c .before .before .before in judged-none _ (simp (q .before .before .read .ensures, q .before .clear .ensures) at (q .query-fault .ensures)) (c .before .before .if1 .left) (simp (c .before .side-of .ensures, q .before .before .read .ensures, q .before .clear .ensures) at (c .tell-side .ensures))))
+    (λ c. let q = c .before .before .before in
+    judged-none _ (simp (q .before .before .read .ensures, q .before .clear .ensures) at (q .query-fault .ensures)) (c .before .before .if1 .left) (simp (c .before .side-of .ensures, q .before .before .read .ensures, q .before .clear .ensures) at (c .tell-side .ensures))))

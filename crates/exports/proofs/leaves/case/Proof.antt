@@ -2,7 +2,6 @@ use Rattle.exports.specs.Leaves.{cases, caseOf}
 use Rattle.exports.proofs.Tables.{past}
 use lib.ListN.{List·getD-eq-default}
 use mathlib.Core.Path.{sym}
-use borrow.Author.Needs.{needs}
 use Rattle.exports.proofs.leaves.case.Statement.{statement}
 use Rattle.exports.proofs.leaves.case.Tie as tie
 
@@ -11,12 +10,12 @@ unfolding caseOf
 case-spec =
     tie.close
     (tie.spec
-    (λ c κs. search needs) (λ c κs. search needs) (λ c κs. search needs) (λ c κs. search needs)
-    (λ c κs. search needs) (λ c κs. search needs) (λ c κs. search needs) (λ c κs. search needs)
-    (λ c κs. search needs) (λ c κs. search needs) (λ c κs. search needs) (λ c κs. search needs)
-    (λ c κs. search needs) (λ c κs. search needs) (λ c κs. search needs) (λ c κs. search needs)
-    (λ c κs. search needs) (λ c κs. search needs) (λ c κs. search needs) (λ c κs. search needs)
-    (λ c κs. search needs) (λ c κs. search needs) (λ c κs. search needs)
+    (λ c κs. tt) (λ c κs. tt) (λ c κs. tt) (λ c κs. tt)
+    (λ c κs. tt) (λ c κs. tt) (λ c κs. tt) (λ c κs. tt)
+    (λ c κs. tt) (λ c κs. tt) (λ c κs. tt) (λ c κs. tt)
+    (λ c κs. tt) (λ c κs. tt) (λ c κs. tt) (λ c κs. tt)
+    (λ c κs. tt) (λ c κs. tt) (λ c κs. tt) (λ c κs. tt)
+    (λ c κs. tt) (λ c κs. tt) (λ c κs. tt)
     (λ c. simp (c .before .before .match .keys1, c .yes .ensures, c .before .eq .ensures))
     (λ c. simp (c .before .before .match .keys2, c .yes2 .ensures, c .before .eq-zero .ensures))
     (λ c. simp (c .before .before .match .keys3, c .yes3 .ensures, c .before .lte .ensures))

@@ -4,7 +4,6 @@ use Rattle.exports.proofs.Tables.{past}
 use lib.Ieee.{nan}
 use lib.ListN.{List·getD-eq-default}
 use mathlib.Core.Path.{sym, _∙_}
-use borrow.Author.Needs.{needs}
 use Rattle.exports.proofs.leaves.number.Statement.{statement}
 use Rattle.exports.proofs.leaves.number.Tie as tie
 
@@ -13,8 +12,8 @@ unfolding numberOf
 number-spec =
     tie.close
     (tie.spec
-    (λ c κs. search needs) (λ c κs. search needs) (λ c κs. search needs) (λ c κs. search needs)
-    (λ c κs. search needs) (λ c κs. search needs) (λ c κs. search needs) (λ c κs. search needs)
+    (λ c κs. tt) (λ c κs. tt) (λ c κs. tt) (λ c κs. tt)
+    (λ c κs. tt) (λ c κs. tt) (λ c κs. tt) (λ c κs. tt)
     (λ c. simp (c .before .match .keys1, c .dot-prod .ensures))
     (λ c. simp (c .before .match .keys2, c .squared-norm .ensures))
     (λ c. simp (c .before .match .keys3, c .norm .ensures))

@@ -3,7 +3,6 @@ use Rattle.vec3.specs.Vec.{origin}
 use Rattle.exports.proofs.Tables.{past}
 use lib.ListN.{List·getD-eq-default}
 use mathlib.Core.Path.{sym}
-use borrow.Author.Needs.{needs}
 use Rattle.exports.proofs.leaves.vector.Statement.{statement}
 use Rattle.exports.proofs.leaves.vector.Tie as tie
 
@@ -12,10 +11,10 @@ unfolding vectorOf
 vector-spec =
     tie.close
     (tie.spec
-    (λ c κs. search needs) (λ c κs. search needs) (λ c κs. search needs) (λ c κs. search needs)
-    (λ c κs. search needs) (λ c κs. search needs) (λ c κs. search needs) (λ c κs. search needs)
-    (λ c κs. search needs) (λ c κs. search needs) (λ c κs. search needs) (λ c κs. search needs)
-    (λ c κs. search needs) (λ c κs. search needs) (λ c κs. search needs) (λ c κs. search needs)
+    (λ c κs. tt) (λ c κs. tt) (λ c κs. tt) (λ c κs. tt)
+    (λ c κs. tt) (λ c κs. tt) (λ c κs. tt) (λ c κs. tt)
+    (λ c κs. tt) (λ c κs. tt) (λ c κs. tt) (λ c κs. tt)
+    (λ c κs. tt) (λ c κs. tt) (λ c κs. tt) (λ c κs. tt)
     (λ c. simp (c .before .match .keys1, c .new .ensures))
     (λ c. simp (c .before .match .keys2, c .new-unit .ensures))
     (λ c. simp (c .before .match .keys3, c .unit .ensures))

@@ -15,7 +15,7 @@ use Rattle.ears.specs.Ears.{Lent, Remaining}
 use Rattle.cutting.specs.Cutting.{Ring, Work, wholeRing, Cutting, cuttingFrom, cuttingOf, Out, laid, outOf}
 use Rattle.cutting.proofs.Relations.{cuts, at-lowest}
 
-getD-numbers : (k i j : ℕ) → j < k → getD (flat oneNumber k i) j 0 ≡ i + j
+pub getD-numbers : (k i j : ℕ) → j < k → getD (flat oneNumber k i) j 0 ≡ i + j
 unfolding flat
 getD-numbers zero i j h = absurd (omega arith)
 getD-numbers (suc k) i zero h = omega arith

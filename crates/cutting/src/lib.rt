@@ -89,7 +89,7 @@ fn cut_all(ps: &[f64], ids: &mut [u16], classes: &mut [u8], triangles: &mut [u16
 }
 
 // The ring before any cut, in work places: its numbers, and a copy of its classes.
-fn start(classes: &[u8], ids: &mut [u16], work: &mut [u8])
+pub fn start(classes: &[u8], ids: &mut [u16], work: &mut [u8])
     requires { ⌜ (length (now ids) ≡ length (now classes)) × (length (now work) ≡ length (now classes)) × (length (now classes) ≤ 512) ⌝ }
     ensures { λ _. ⌜ record { ids = now (ids .exit); classes = now (work .exit) } ≡ wholeRing (now (classes .entry)) ⌝ }
 {

@@ -1,1 +1,4 @@
 pub mod Writes
+pub mod Tables
+pub mod Unique
+pub mod Once

@@ -20,7 +20,7 @@ use Rattle.exports.specs.Arcs.{arcAt, lengthFault, arcJudged, nextJudged
 
 -- ---- the values written one after the other
 width : (v : Vec3) → length (vecBytes v) ≡ 24
-width v = rw (length-append, length-append, eight, eight, eight)
+width v = simp (length-append, eight)
 
 pub one-written : {x : List ℕ} (out : List ℕ) (v : Vec3) → x ≡ sets out 0 (vecBytes v) → x ≡ sets out 0 (valueBytes (v ∷ []))
 one-written out v e = rw append-nil e

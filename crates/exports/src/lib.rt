@@ -1,6 +1,7 @@
 // C-style exports over numbers and slices, for hosts that link libexports.a. Everything is little-endian; a refusal is 65,536 plus its number.
 mod arcs;
 mod floats;
+mod leaves;
 
 ghost use mathlib.Core.Path.{_≡_};
 ghost use Rattle.exports.specs.Left.{refusalOf};

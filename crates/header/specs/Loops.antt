@@ -1,5 +1,5 @@
 -- A loop's header, and what a loop that is handed back is refused for: the number, 0 for none. Document 01's table and the paragraph under it. Definitions only.
-use Prim.Native.Nat.{ℕ, _*_}
+use Prim.Native.Nat.{ℕ, _*_, _%_}
 use mathlib.Core.Bool.{Bool, true, false, _&&_, not, cond}
 use mathlib.Core.List.{List}
 use lib.ListN.{length, getD}
@@ -78,6 +78,19 @@ vectorsFault h ns = first (J.vectorsFault ns (h .count)) (first (capFault (h .ca
 -- "Cutting triangles and the checker read a loop's count, state, positions and classes alone and judge no normal, cap or inside"
 unfoldable pub cutFault : Header → List Float → List ℕ → ℕ
 cutFault h ps cs = first (shapeFault h ps cs) (ringFault h ps cs)
+
+-- 9: "the checker is given an empty or full loop"
+abbrev pub ringOnly : State → ℕ
+ringOnly Empty = 9
+ringOnly Full = 9
+ringOnly Ring = 0
+
+-- the checker: 1 also for a triangle slice that is not in threes
+unfoldable pub checkFault : Header → List Float → List ℕ → ℕ → ℕ
+checkFault h ps cs size =
+    first (shapeFault h ps cs)
+    (first (cond (eqb (size % 3) 0) 0 1)
+    (first (ringFault h ps cs) (ringOnly (h .state))))
 
 -- a whole loop
 unfoldable pub loopFault : Header → List Float → List Float → List ℕ → ℕ

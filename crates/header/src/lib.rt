@@ -119,6 +119,32 @@ pub fn cut_fault(h: Header, positions: &[f64], classes: &[u8]) -> u8
     ring_fault(h, positions, classes)
 }
 
+// Refusal 9: the checker is given an empty or full loop.
+fn ring_only(state: State) -> u8
+    ensures { λ r. ⌜ r ≡ L.ringOnly state ⌝ }
+{
+    match state {
+        State::Empty => 9,
+        State::Full => 9,
+        State::Ring => 0,
+    }
+}
+
+// What the checker refuses, of a loop and a triangle slice of a size: that it is not in threes comes with the loop's own 1.
+pub fn check_fault(h: Header, positions: &[f64], classes: &[u8], size: usize) -> u8
+    ensures { λ r. ⌜ r ≡ L.checkFault h (now (positions .entry)) (now (classes .entry)) size ⌝ }
+{
+    let f = shape_fault(h, positions, classes);
+    if f != 0 {
+        return f;
+    }
+    if size % 3 != 0 {
+        return 1;
+    }
+    let state = h.state;
+    judge::first(ring_fault(h, positions, classes), ring_only(state))
+}
+
 // Refusal 3 of a cap.
 fn cap_fault(c: Cap) -> u8
     ensures { λ r. ⌜ r ≡ L.capFault c ⌝ }

@@ -1,4 +1,4 @@
--- 0.0 + x is x for every x of the format but -0.0, and so an arc is the opposite of its opposite. Assumes nothing.
+-- 0.0 + x is x for every x of the format but -0.0: a vector is cleared once for all, and an arc is the opposite of its opposite. Assumes nothing.
 use mathlib.Core.Path.{_≡_, refl, sym, ap, _∙_, subst}
 use mathlib.Core.Bool.{Bool, true, false, not, cond, _&&_}
 use Prim.Native.Nat.{ℕ, zero, suc, _+_, _-_, _*_, _/_, _%_, _^_, _≤_, _<_}
@@ -16,7 +16,9 @@ use Rattle.root.proofs.Units.{same-units, shape}
 use Rattle.numbers.proofs.Rounds.{is-true}
 use Rattle.numbers.specs.F64 as F
 use Rattle.minor_arc.specs.declared.MinorArc.{MinorArc}
+use Rattle.vec3.specs.Vec.{vec}
 use Rattle.minor_arc.specs.Arcs.{Plain, PlainVec, reversed}
+use Rattle.minor_arc.specs.Answers.{cleared}
 
 -- ---- what fits is rounded to itself
 fits-either : (s t : Bool) (m : ℕ) (e : ℤ) → T (fits binary64 (fin s m e)) → T (fits binary64 (fin t m e))
@@ -99,6 +101,18 @@ plus-plain (inf s) p = refl
 plus-plain (fin s (suc m) e) p = plus-some s m e (p .held)
 plus-plain (fin true zero e) p = absurd (p .signed (zero-exponent true e (p .held) ∙ minus-zero))
 plus-plain (fin false zero e) p = subst (λ (x : Float). F._⊕_ F.zero x ≡ x) (sym (zero-exponent false e (p .held))) refl
+
+-- ---- what is clear stays as it is
+plus-again : (x : Float) → T (fits binary64 x) → F._⊕_ F.zero (F._⊕_ F.zero x) ≡ F._⊕_ F.zero x
+unfolding add ofBits
+plus-again nan t = refl
+plus-again (inf s) t = refl
+plus-again (fin s (suc m) e) t = rw (plus-some s m e t) (plus-some s m e t)
+plus-again (fin true zero e) t = subst (λ (x : Float). F._⊕_ F.zero (F._⊕_ F.zero x) ≡ F._⊕_ F.zero x) (sym (zero-exponent true e t)) refl
+plus-again (fin false zero e) t = subst (λ (x : Float). F._⊕_ F.zero (F._⊕_ F.zero x) ≡ F._⊕_ F.zero x) (sym (zero-exponent false e t)) refl
+
+pub clear-once : (a b c : Float) → T (fits binary64 a) → T (fits binary64 b) → T (fits binary64 c) → cleared (vec a b c) ≡ vec a b c
+clear-once a b c p q r = rw (plus-again a p, plus-again b q, plus-again c r)
 
 -- ---- the other way round, and back
 again : (x : Float) → Plain x → F._⊕_ F.zero (neg (F._⊕_ F.zero (neg x))) ≡ x

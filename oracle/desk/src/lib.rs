@@ -150,10 +150,7 @@ impl Loop {
         let mut out = vec![0; 6 * room];
         let n = answered(raw::desk_triangles(&self.0, &mut out))? as usize;
         let number = |b: &[u8]| u16::from_le_bytes([b[0], b[1]]);
-        Ok(out[..6 * n]
-            .chunks(6)
-            .map(|t| [number(&t[0..2]), number(&t[2..4]), number(&t[4..6])])
-            .collect())
+        Ok(out[..6 * n].chunks(6).map(|t| [number(&t[0..2]), number(&t[2..4]), number(&t[4..6])]).collect())
     }
 
     /// Whether the triangles are cuts at eligible ears.

@@ -62,7 +62,11 @@ impl Both {
 
     fn build(&mut self) -> Option<u32> {
         desk::raw::desk_build_f64(
-            &self.list, &mut self.header, &mut self.positions, &mut self.normals, &mut self.classes,
+            &self.list,
+            &mut self.header,
+            &mut self.positions,
+            &mut self.normals,
+            &mut self.classes,
         )
     }
 
@@ -72,8 +76,14 @@ impl Both {
 
     fn pair(&self, o: &Both) -> Option<u32> {
         desk::raw::desk_pair_f64(
-            &self.header, &self.positions, &self.normals, &self.classes,
-            &o.header, &o.positions, &o.normals, &o.classes,
+            &self.header,
+            &self.positions,
+            &self.normals,
+            &self.classes,
+            &o.header,
+            &o.positions,
+            &o.normals,
+            &o.classes,
         )
     }
 
@@ -167,11 +177,17 @@ fn apart(star: bool, n: usize) -> Both {
 pub fn bench() {
     let exe = std::env::current_exe().ok();
     let profile = exe.as_deref().and_then(|e| e.parent()?.file_name()?.to_str()).unwrap_or("unknown");
-    println!("The Rust by profile {profile} (release: cargo's default; fat: codegen-units = 1, lto = \"fat\"), on {}.", std::env::consts::ARCH);
+    println!(
+        "The Rust by profile {profile} (release: cargo's default; fat: codegen-units = 1, lto = \"fat\"), on {}.",
+        std::env::consts::ARCH
+    );
     if desk::raw::STANDIN {
         println!("A STAND-IN is linked, not the port: the column `ours` says nothing.");
     }
-    println!("Nanoseconds a call, least of five rounds; ours through the _f64 exports{}.", if Both::of(&shape(false, 4, CENTRE, 0.3)).build().is_some() { "" } else { " (not linked here, so not timed)" });
+    println!(
+        "Nanoseconds a call, least of five rounds; ours through the _f64 exports{}.",
+        if Both::of(&shape(false, 4, CENTRE, 0.3)).build().is_some() { "" } else { " (not linked here, so not timed)" }
+    );
     println!("{:<22} {:<7} {:>4} {:>12} {:>12} {:>7}", "what", "shape", "n", "ours", "the Rust", "ratio");
     for star in [false, true] {
         for n in [4, 16, 64, 256, 512] {

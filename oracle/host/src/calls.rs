@@ -65,9 +65,7 @@ impl Arg {
     pub fn bytes(&self) -> Option<Vec<u8>> {
         match self {
             Arg::Bytes(b) | Arg::OutBytes(b) => Some(b.clone()),
-            Arg::Floats(f) | Arg::OutFloats(f) => {
-                Some(f.iter().flat_map(|x| x.to_bits().to_le_bytes()).collect())
-            }
+            Arg::Floats(f) | Arg::OutFloats(f) => Some(f.iter().flat_map(|x| x.to_bits().to_le_bytes()).collect()),
             Arg::OutShorts(s) => Some(s.iter().flat_map(|x| x.to_le_bytes()).collect()),
             _ => None,
         }
@@ -130,8 +128,8 @@ impl<T: Value> Value for Option<T> {
 /// Calls the function of that export in the named module.
 macro_rules! dispatch {
     ($module:path, $call:expr) => {{
-        use $module as to;
         use Arg::*;
+        use $module as to;
         let mut args = $call.args.clone();
         let value = match ($call.export, args.as_mut_slice()) {
             (Export::Root, [Word(b)]) => to::desk_root(*b).value(),
@@ -150,49 +148,29 @@ macro_rules! dispatch {
             (Export::ArcOpposite, [Bytes(a), OutBytes(o)]) => to::desk_arc_opposite(a, o).value(),
             (Export::ArcSide, [Bytes(a), Bytes(p)]) => to::desk_arc_side(a, p).value(),
             (Export::ArcContains, [Bytes(a), Bytes(p)]) => to::desk_arc_contains(a, p).value(),
-            (Export::ArcIntersection, [Bytes(a), Bytes(b), OutBytes(o)]) => {
-                to::desk_arc_intersection(a, b, o).value()
+            (Export::ArcIntersection, [Bytes(a), Bytes(b), OutBytes(o)]) => to::desk_arc_intersection(a, b, o).value(),
+            (Export::ArcRelate, [Bytes(a), Bytes(b), OutBytes(o)]) => to::desk_arc_relate(a, b, o).value(),
+            (Export::BuildF64, [Floats(l), OutBytes(h), OutFloats(p), OutFloats(n), OutBytes(c)]) => {
+                to::desk_build_f64(l, h, p, n, c).value()
             }
-            (Export::ArcRelate, [Bytes(a), Bytes(b), OutBytes(o)]) => {
-                to::desk_arc_relate(a, b, o).value()
+            (Export::PlaceF64, [Bytes(h), Floats(p), Floats(n), Bytes(c), Float(x), Float(y), Float(z)]) => {
+                to::desk_place_f64(h, p, n, c, *x, *y, *z).value()
             }
-            (
-                Export::BuildF64,
-                [Floats(l), OutBytes(h), OutFloats(p), OutFloats(n), OutBytes(c)],
-            ) => to::desk_build_f64(l, h, p, n, c).value(),
-            (
-                Export::PlaceF64,
-                [Bytes(h), Floats(p), Floats(n), Bytes(c), Float(x), Float(y), Float(z)],
-            ) => to::desk_place_f64(h, p, n, c, *x, *y, *z).value(),
             (
                 Export::PairF64,
-                [
-                    Bytes(h),
-                    Floats(p),
-                    Floats(n),
-                    Bytes(c),
-                    Bytes(h2),
-                    Floats(p2),
-                    Floats(n2),
-                    Bytes(c2),
-                ],
+                [Bytes(h), Floats(p), Floats(n), Bytes(c), Bytes(h2), Floats(p2), Floats(n2), Bytes(c2)],
             ) => to::desk_pair_f64(h, p, n, c, h2, p2, n2, c2).value(),
             (Export::TrianglesF64, [Bytes(h), Floats(p), Bytes(c), OutShorts(o)]) => {
                 to::desk_triangles_f64(h, p, c, o).value()
             }
-            (Export::LeafVec, [Int(op), Floats(i), OutFloats(o)]) => {
-                to::leaf_vec(*op, i, o).value()
-            }
+            (Export::LeafVec, [Int(op), Floats(i), OutFloats(o)]) => to::leaf_vec(*op, i, o).value(),
             (Export::LeafNumber, [Int(op), Floats(i)]) => to::leaf_number(*op, i).value(),
             (Export::LeafCase, [Int(op), Floats(i)]) => to::leaf_case(*op, i).value(),
             (Export::LeafCap, [Floats(l), OutFloats(o)]) => to::leaf_cap(l, o).value(),
             (Export::Scene, [Bytes(i), OutBytes(o)]) => to::desk_scene(i, o).value(),
             _ => panic!("{:?} takes other arguments", $call.export),
         };
-        value.map(|value| Answer {
-            value,
-            outs: args.iter().filter(|a| a.is_out()).filter_map(Arg::bytes).collect(),
-        })
+        value.map(|value| Answer { value, outs: args.iter().filter(|a| a.is_out()).filter_map(Arg::bytes).collect() })
     }};
 }
 

@@ -52,8 +52,24 @@ fn put_atan(t: &mut Tally, y: f64, x: f64) {
 /// Pairs over all exponents, zeros of both signs, near-equal ones, infinities and NaN.
 pub fn atan(t: &mut Tally, r: &mut Random, n: usize) {
     let special = [
-        0.0, -0.0, 1.0, -1.0, f64::INFINITY, f64::NEG_INFINITY, f64::NAN, f64::MAX, f64::MIN,
-        f64::MIN_POSITIVE, 5e-324, -5e-324, 0.5, 2.0, 1e-163, -1e-163, 1e300, EPS,
+        0.0,
+        -0.0,
+        1.0,
+        -1.0,
+        f64::INFINITY,
+        f64::NEG_INFINITY,
+        f64::NAN,
+        f64::MAX,
+        f64::MIN,
+        f64::MIN_POSITIVE,
+        5e-324,
+        -5e-324,
+        0.5,
+        2.0,
+        1e-163,
+        -1e-163,
+        1e300,
+        EPS,
     ];
     for y in special {
         for x in special {

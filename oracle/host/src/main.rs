@@ -34,7 +34,17 @@ const GROUPS: [(&str, &[Export]); 11] = [
     ("root", &[Export::Root]),
     ("atan", &[Export::Atan2]),
     ("leaves", &[Export::LeafVec, Export::LeafNumber, Export::LeafCase, Export::LeafCap]),
-    ("arcs", &[Export::Arc, Export::ArcOpposite, Export::ArcSide, Export::ArcContains, Export::ArcIntersection, Export::ArcRelate]),
+    (
+        "arcs",
+        &[
+            Export::Arc,
+            Export::ArcOpposite,
+            Export::ArcSide,
+            Export::ArcContains,
+            Export::ArcIntersection,
+            Export::ArcRelate,
+        ],
+    ),
     ("build", &[Export::Build, Export::BuildF64]),
     ("place", &[Export::Place, Export::PlaceF64]),
     ("triangles", &[Export::Triangles, Export::TrianglesF64]),

@@ -18,9 +18,7 @@ fn read(path: &Path) -> Mutant {
         let found = text.lines().find_map(|l| l.strip_prefix(word));
         found.unwrap_or_else(|| panic!("{path:?} has no line '{word}'")).to_string()
     };
-    let joined = |mark: char| {
-        text.lines().filter_map(|l| l.strip_prefix(mark)).collect::<Vec<_>>().join("\n")
-    };
+    let joined = |mark: char| text.lines().filter_map(|l| l.strip_prefix(mark)).collect::<Vec<_>>().join("\n");
     Mutant {
         name: path.file_name().unwrap().to_string_lossy().into_owned(),
         group: after("group "),
@@ -112,6 +110,11 @@ pub fn run(oracle: &Path, word: &str) -> bool {
             missed.push(m.name);
         }
     }
-    println!("mutants: {tried} tried, {} not noticed{}{}", missed.len(), if missed.is_empty() { "" } else { ": " }, missed.join(" "));
+    println!(
+        "mutants: {tried} tried, {} not noticed{}{}",
+        missed.len(),
+        if missed.is_empty() { "" } else { ": " },
+        missed.join(" ")
+    );
     missed.is_empty()
 }

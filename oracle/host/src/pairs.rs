@@ -1,6 +1,6 @@
 //! Runs over two loops.
 use crate::calls::{Arg, Export};
-use crate::random::{P, Random, along, around, bytes, neg, unit, add};
+use crate::random::{P, Random, add, along, around, bytes, neg, unit};
 use crate::rings::{HEADER, built_or_empty, count, damaged_loop, parts, some_loop, vertex};
 use crate::shapes;
 use crate::tally::Tally;
@@ -183,8 +183,14 @@ pub fn pair(t: &mut Tally, r: &mut Random, n: usize) {
             t.put(
                 Export::PairF64,
                 vec![
-                    Arg::Bytes(h), Arg::Floats(p), Arg::Floats(m), Arg::Bytes(c),
-                    Arg::Bytes(h2), Arg::Floats(p2), Arg::Floats(m2), Arg::Bytes(c2),
+                    Arg::Bytes(h),
+                    Arg::Floats(p),
+                    Arg::Floats(m),
+                    Arg::Bytes(c),
+                    Arg::Bytes(h2),
+                    Arg::Floats(p2),
+                    Arg::Floats(m2),
+                    Arg::Bytes(c2),
                 ],
             );
         }

@@ -125,7 +125,13 @@ fn encode(call: &Call, to: &mut Vec<u8>, slices: &mut Vec<(usize, usize)>) {
         let bytes = a.bytes();
         let kind = match a {
             Arg::Float(_) => 1u64,
-            _ => if bytes.is_some() { 2 } else { 0 },
+            _ => {
+                if bytes.is_some() {
+                    2
+                } else {
+                    0
+                }
+            }
         };
         put(to, kind);
         put(to, a.word());

@@ -38,7 +38,8 @@ pub fn parts(l: &[u8]) -> (Vec<u8>, Vec<f64>, Vec<f64>, Vec<u8>) {
     let rest = &l[h.len()..];
     let n = if h.len() == HEADER { count(&h) } else { 0 };
     let take = |from: usize, size: usize| rest[from.min(rest.len())..(from + size).min(rest.len())].to_vec();
-    let floats = |b: Vec<u8>| -> Vec<f64> { b.chunks_exact(8).map(|c| f64::from_le_bytes(c.try_into().unwrap())).collect() };
+    let floats =
+        |b: Vec<u8>| -> Vec<f64> { b.chunks_exact(8).map(|c| f64::from_le_bytes(c.try_into().unwrap())).collect() };
     (h, floats(take(0, 24 * n)), floats(take(24 * n, 24 * n)), take(48 * n, usize::MAX / 2))
 }
 
@@ -126,10 +127,11 @@ fn judge_turns(t: &mut Tally, list: &[P]) {
 }
 
 pub fn build(t: &mut Tally, r: &mut Random, n: usize) {
-    // Every length around the borders, each with a shape of its own.
-    let lengths: Vec<usize> = (0..40).chain([63, 64, 65, 127, 128, 255, 256, 257, 400]).chain(505..516).collect();
-    for len in lengths {
-        for shape in [shapes::convex, shapes::star, shapes::ragged] {
+    // Every length up to some above the most, and each shape around the borders.
+    let shapes = [shapes::convex, shapes::star, shapes::ragged];
+    for len in 0..516 {
+        let border = len < 12 || len > 508;
+        for shape in shapes.iter().skip(if border { 0 } else { len % 3 }).take(if border { 3 } else { 1 }) {
             let list = shape(r, len);
             put_build(t, r, &list);
         }
@@ -372,7 +374,15 @@ pub fn place(t: &mut Tally, r: &mut Random, n: usize) {
         let x = if r.chance(30) { bad_float(r) } else { q[0] };
         t.put(
             Export::PlaceF64,
-            vec![Arg::Bytes(h), Arg::Floats(p), Arg::Floats(m), Arg::Bytes(c), Arg::Float(x), Arg::Float(q[1]), Arg::Float(q[2])],
+            vec![
+                Arg::Bytes(h),
+                Arg::Floats(p),
+                Arg::Floats(m),
+                Arg::Bytes(c),
+                Arg::Float(x),
+                Arg::Float(q[1]),
+                Arg::Float(q[2]),
+            ],
         );
     }
 }
@@ -438,7 +448,13 @@ pub fn triangles(t: &mut Tally, r: &mut Random, n: usize) {
         let len = shapes::length(r).min(if r.chance(6) { 512 } else { 100 });
         let l = some_loop(r, len);
         let state = if l.len() > 2 { l[2] } else { 0 };
-        let needs = if state == 1 { 20 } else if l.len() < 2 { 0 } else { count(&l).saturating_sub(2) };
+        let needs = if state == 1 {
+            20
+        } else if l.len() < 2 {
+            0
+        } else {
+            count(&l).saturating_sub(2)
+        };
         let size = match r.below(8) {
             0 => (6 * needs).saturating_sub(1 + r.below(6)),
             1 => 6 * needs + r.below(20),

@@ -1,7 +1,7 @@
 //! Runs over scenes: whole ones, and damaged in every way that document 01 names.
 use crate::calls::{Answer, Arg, Call, Export, blank, by_model};
 use crate::port::emulator;
-use crate::random::{P, Random, along, bytes, list_bytes, unit, add};
+use crate::random::{P, Random, add, along, bytes, list_bytes, unit};
 use crate::shapes;
 use crate::tally::Tally;
 use std::io::Write;
@@ -146,7 +146,9 @@ impl Program {
         let emulator = emulator();
         let lib = match &emulator {
             Some(e) => e.parent()?.parent()?.join("lib"),
-            None => PathBuf::from(std::env::var_os("RATTLE_HOME").unwrap_or("/opt/rattle".into())).join("toolchain/lib"),
+            None => {
+                PathBuf::from(std::env::var_os("RATTLE_HOME").unwrap_or("/opt/rattle".into())).join("toolchain/lib")
+            }
         };
         bin.is_file().then_some(Program { bin, lib, emulator })
     }

@@ -32,7 +32,17 @@ fn kind_of(call: &Call, a: &Answer) -> String {
         _ if a.value >= REFUSED => format!("{name} refused {}", a.value - REFUSED),
         Export::Build | Export::BuildF64 => format!("{name} {}", header_kind(&a.outs[0])),
         Export::Triangles | Export::TrianglesF64 => {
-            format!("{name} {}", if a.value == 0 { "none" } else { "some" })
+            let full = matches!(&call.args[0], Arg::Bytes(h) if h[2] == 1);
+            format!(
+                "{name} {}",
+                if full {
+                    "of a full loop"
+                } else if a.value == 0 {
+                    "none"
+                } else {
+                    "of a ring"
+                }
+            )
         }
         _ => format!("{name} = {}", a.value),
     }

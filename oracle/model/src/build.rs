@@ -91,9 +91,7 @@ impl Built {
         let mut h = [0; HEADER];
         h[..2].copy_from_slice(&(self.count() as u16).to_le_bytes());
         h[2] = self.state;
-        h[3] = u8::from(self.reversed)
-            | u8::from(self.weak) << 1
-            | if self.insides.is_some() { INSIDES } else { 0 };
+        h[3] = u8::from(self.reversed) | u8::from(self.weak) << 1 | if self.insides.is_some() { INSIDES } else { 0 };
         put(&mut h, 8, self.cap.centre().as_vec3());
         let radius = chord_length::probe::length2(cap::probe::radius(self.cap));
         h[32..40].copy_from_slice(&radius.to_le_bytes());
@@ -155,10 +153,7 @@ pub fn desk_build_f64(
     answer((|| {
         let list = judge_list(list)?;
         let n = needed(&list);
-        let short = header.len() < HEADER
-            || positions.len() < 3 * n
-            || normals.len() < 3 * n
-            || classes.len() < n;
+        let short = header.len() < HEADER || positions.len() < 3 * n || normals.len() < 3 * n || classes.len() < n;
         refuse_if(short, 5)?;
         let b = build(&list);
         header[..HEADER].copy_from_slice(&b.header());

@@ -2,9 +2,9 @@
 //! "its class is convex and no ring vertex of another class is inside or on an edge of (previous, this, next)".
 use crate::loops::{EMPTY, FULL, Ring, read_loop, take_loop};
 use crate::read::{Judged, answer, refuse_if};
+use jord::NVector;
 use jord::spherical::sloop::probe as sloop;
 use jord::spherical::{Side, Sphere};
-use jord::NVector;
 
 pub type Triple = [u16; 3];
 
@@ -96,8 +96,7 @@ pub fn triangles_checked(ring: &Ring) -> Option<Vec<Triple>> {
         return ours;
     }
     let at = |i: u16| ring.vertices[usize::from(i)].0;
-    let by_position: Vec<_> =
-        ours.iter().flatten().map(|t| (at(t[0]), at(t[1]), at(t[2]))).collect();
+    let by_position: Vec<_> = ours.iter().flatten().map(|t| (at(t[0]), at(t[1]), at(t[2]))).collect();
     assert_eq!(sloop::ear_clipping(&ring.vertices), by_position, "the triangles are the source's");
     ours
 }
@@ -176,8 +175,7 @@ pub fn desk_accepts(of: &[u8], triangles: &[u8]) -> u32 {
         refuse_if(triangles.len() % 6 != 0, 1)?;
         let ring = handed.judge_ring()?;
         refuse_if(ring.state == EMPTY || ring.state == FULL, 9)?;
-        let numbers: Vec<u16> =
-            triangles.chunks(2).map(|b| u16::from_le_bytes([b[0], b[1]])).collect();
+        let numbers: Vec<u16> = triangles.chunks(2).map(|b| u16::from_le_bytes([b[0], b[1]])).collect();
         let triples: Vec<Triple> = numbers.chunks(3).map(|t| [t[0], t[1], t[2]]).collect();
         Ok(u32::from(accepted(&ring, &triples)))
     })())

@@ -13,14 +13,8 @@ pub mod pair;
 pub mod read;
 pub mod scene;
 
-pub use arcs::{
-    desk_arc, desk_arc_contains, desk_arc_intersection, desk_arc_opposite, desk_arc_relate,
-    desk_arc_side,
-};
-pub use ask::{
-    desk_convex, desk_equivalent, desk_on_edge, desk_place, desk_place_f64, desk_simple,
-    desk_vertex,
-};
+pub use arcs::{desk_arc, desk_arc_contains, desk_arc_intersection, desk_arc_opposite, desk_arc_relate, desk_arc_side};
+pub use ask::{desk_convex, desk_equivalent, desk_on_edge, desk_place, desk_place_f64, desk_simple, desk_vertex};
 pub use build::{desk_build, desk_build_f64};
 pub use cut::{desk_accepts, desk_triangles, desk_triangles_f64};
 pub use leaves::{desk_atan2, desk_root, leaf_cap, leaf_case, leaf_number, leaf_vec};

@@ -67,18 +67,11 @@ pub fn read_loop(bytes: &[u8]) -> Judged<Handed> {
 }
 
 /// A loop in parts, its refusal 1 judged; `normals` is absent where the call takes none.
-pub fn take_loop(
-    header: &[u8],
-    positions: &[f64],
-    normals: Option<&[f64]>,
-    classes: &[u8],
-) -> Judged<Handed> {
+pub fn take_loop(header: &[u8], positions: &[f64], normals: Option<&[f64]>, classes: &[u8]) -> Judged<Handed> {
     let header = read_header(header)?;
     count_fits(&header)?;
     let n = header.count;
-    let agree = positions.len() == 3 * n
-        && normals.is_none_or(|s| s.len() == 3 * n)
-        && classes.len() == n;
+    let agree = positions.len() == 3 * n && normals.is_none_or(|s| s.len() == 3 * n) && classes.len() == n;
     refuse_if(!agree, 1)?;
     Ok(Handed {
         header,
@@ -100,10 +93,7 @@ impl Handed {
         refuse_if(self.header.count > MOST, 2)?;
         refuse_if(self.classes.iter().any(|c| *c > 2), 6)?;
         let ps = positions(&self.positions)?;
-        Ok(Ring {
-            state: self.header.state,
-            vertices: ps.into_iter().zip(self.classes.iter().copied()).collect(),
-        })
+        Ok(Ring { state: self.header.state, vertices: ps.into_iter().zip(self.classes.iter().copied()).collect() })
     }
 
     pub fn has_insides(&self) -> bool {
@@ -129,9 +119,7 @@ impl Handed {
                 arc_of_parts(ring.vertices[i].0, next, vec3(&self.normals[3 * i..]))
             })
             .collect();
-        let insides = self.has_insides().then(|| {
-            (NVector::new(vec3(&h.insides)), NVector::new(vec3(&h.insides[3..])))
-        });
+        let insides = self.has_insides().then(|| (NVector::new(vec3(&h.insides)), NVector::new(vec3(&h.insides[3..]))));
         let radius = chord_length::probe::of_length2(h.cap[3]);
         let bounding = cap::probe::of_parts(NVector::new(vec3(&h.cap)), radius);
         Ok(sloop::of_parts(&ring.vertices, insides, &edges, bounding, h.state == FULL))

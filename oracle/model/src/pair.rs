@@ -34,8 +34,7 @@ fn by_source(a: &Loop, b: &Loop) -> Judged<u32> {
 
 /// Whether the source would work out a midpoint on the way from `probe` to `reference`.
 fn needs_midpoint(probe: &Loop, reference: &Loop) -> bool {
-    !sloop::vertices_of(probe).is_empty()
-        && probe.iter_vertices().all(|v| reference.any_edge_contains_position(*v))
+    !sloop::vertices_of(probe).is_empty() && probe.iter_vertices().all(|v| reference.any_edge_contains_position(*v))
 }
 
 /// `find_unambiguous_point` with the stand-in.
@@ -100,9 +99,7 @@ fn by_steps(a: &Loop, b: &Loop) -> Judged<u32> {
         (true, true) => Err(7),
         (true, false) => Ok(code(LoopRelation::Within)),
         (false, true) => Ok(code(LoopRelation::Containing)),
-        (false, false) => {
-            Ok(code(if met { LoopRelation::Touching } else { LoopRelation::Disjoint }))
-        }
+        (false, false) => Ok(code(if met { LoopRelation::Touching } else { LoopRelation::Disjoint })),
     }
 }
 

@@ -12,8 +12,7 @@ pub const MOST_BYTES: usize = 65_536;
 pub const MOST_AREAS: usize = 16;
 pub const MOST_POSITIONS: usize = 1_024;
 
-const RELATIONS: [&str; 6] =
-    ["disjoint", "touching", "intersecting", "containing", "within", "equal"];
+const RELATIONS: [&str; 6] = ["disjoint", "touching", "intersecting", "containing", "within", "equal"];
 
 struct Area {
     number: u16,

@@ -11,4 +11,5 @@ put-u64-spec =
     (tie.spec
     (λ c κs. search needs) (λ c. search needs) (λ c κs. search needs) (λ c. search needs) (λ c κs. search needs)
     (λ c. search needs) (λ c κs. search needs) (λ c. search needs)
-    (λ c. let p = c .before .before in simp (p .put-u164 .ensures, p .before .before .before .before .put-u163 .ensures, p .before .before .before .before .before .before .before .before .put-u162 .ensures, p .before .before .before .before .before .before .before .before .before .before .before .before .put-u16 .ensures, towards-suc)))
+    (λ c. let p = c .before .before in
+    simp (p .put-u164 .ensures, p .before .before .before .before .put-u163 .ensures, p .before .before .before .before .before .before .before .before .put-u162 .ensures, p .before .before .before .before .before .before .before .before .before .before .before .before .put-u16 .ensures, towards-suc)))

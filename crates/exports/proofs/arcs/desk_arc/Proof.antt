@@ -10,8 +10,18 @@ desk-arc-spec =
     tie.close
     (tie.spec
     (λ c κs. search needs) (λ c κs. search needs)
-    (λ c. let j = c .before .before in let a = j .before .before .before .before .args in gone (newAnswer (vecOf (a .start .now) 0) (vecOf (a .end .now) 0)) (j .ends-judged .ensures) (a .out .now) (c .before .if1 .taken) (c .refusal .ensures))
-    (λ c κs. let j = c .before .before in let a = j .before .before .before .before .args in start-long (a .start .now) (a .end .now) (j .ends-judged .ensures) (c .before .if1 .left))
-    (λ c κs. let j = c .before .before .before in let a = j .before .before .before .before .args in end-long (a .start .now) (a .end .now) (j .ends-judged .ensures) (c .before .before .if1 .left))
+    (λ c. let j = c .before .before in
+    let a = j .before .before .before .before .args in
+    gone (newAnswer (vecOf (a .start .now) 0) (vecOf (a .end .now) 0)) (j .ends-judged .ensures) (a .out .now) (c .before .if1 .taken) (c .refusal .ensures))
+    (λ c κs. let j = c .before .before in
+    let a = j .before .before .before .before .args in
+    start-long (a .start .now) (a .end .now) (j .ends-judged .ensures) (c .before .if1 .left))
+    (λ c κs. let j = c .before .before .before in
+    let a = j .before .before .before .before .args in
+    end-long (a .start .now) (a .end .now) (j .ends-judged .ensures) (c .before .before .if1 .left))
     (λ c κs. search needs) (λ c κs. search needs) (λ c. search needs)
-    (λ c. let l = c .before .before in let v = l .before .before in let j = v .before .before .before .before in let a = j .before .before .before .before .args in went-on (newAnswer (vecOf (a .start .now) 0) (vecOf (a .end .now) 0)) (j .ends-judged .ensures) (a .out .now) (v .before .before .before .if1 .left) (simp (v .before .vec-at .ensures, v .vec-at2 .ensures) at (l .before .new .ensures)) (l .leave-made .ensures)))
+    (λ c. let l = c .before .before in
+    let v = l .before .before in
+    let j = v .before .before .before .before in
+    let a = j .before .before .before .before .args in
+    went-on (newAnswer (vecOf (a .start .now) 0) (vecOf (a .end .now) 0)) (j .ends-judged .ensures) (a .out .now) (v .before .before .before .if1 .left) (simp (v .before .vec-at .ensures, v .vec-at2 .ensures) at (l .before .new .ensures)) (l .leave-made .ensures)))

@@ -12,4 +12,6 @@ desk-arc-opposite-spec =
     (λ c κs. search needs)
     (λ c. simp (ne-eqb _ _ (c .before .if1 .taken), c .refusal .ensures))
     (λ c κs. search needs) (λ c κs. search needs) (λ c κs. search needs) (λ c. search needs)
-    (λ c. let l = c .before .before in let v = l .before .before in simp (eq-eqb _ _ (v .before .before .if1 .left)) (simp (l .before .opposite .ensures, v .arc-at .ensures) at (l .leave-made .ensures))))
+    (λ c. let l = c .before .before in
+    let v = l .before .before in
+    simp (eq-eqb _ _ (v .before .before .if1 .left)) (simp (l .before .opposite .ensures, v .arc-at .ensures) at (l .leave-made .ensures))))

@@ -10,8 +10,18 @@ desk-arc-relate-spec =
     tie.close
     (tie.spec
     (λ c κs. search needs) (λ c κs. search needs)
-    (λ c. let j = c .before .before in let a = j .before .before .before .before .args in gone (relateAnswer (arcAt (a .a .now)) (arcAt (a .b .now))) (j .next-judged .ensures) (a .out .now) (c .before .if1 .taken) (c .refusal .ensures))
-    (λ c κs. let j = c .before .before in let a = j .before .before .before .before .args in arc-long (a .a .now) (a .b .now) 72 (j .next-judged .ensures) (c .before .if1 .left))
-    (λ c κs. let j = c .before .before .before in let a = j .before .before .before .before .args in next-long (a .a .now) (a .b .now) 72 (j .next-judged .ensures) (c .before .before .if1 .left))
+    (λ c. let j = c .before .before in
+    let a = j .before .before .before .before .args in
+    gone (relateAnswer (arcAt (a .a .now)) (arcAt (a .b .now))) (j .next-judged .ensures) (a .out .now) (c .before .if1 .taken) (c .refusal .ensures))
+    (λ c κs. let j = c .before .before in
+    let a = j .before .before .before .before .args in
+    arc-long (a .a .now) (a .b .now) 72 (j .next-judged .ensures) (c .before .if1 .left))
+    (λ c κs. let j = c .before .before .before in
+    let a = j .before .before .before .before .args in
+    next-long (a .a .now) (a .b .now) 72 (j .next-judged .ensures) (c .before .before .if1 .left))
     (λ c κs. search needs) (λ c κs. search needs) (λ c. search needs)
-    (λ c. let l = c .before .before in let v = l .before .before in let j = v .before .before .before .before in let a = j .before .before .before .before .args in went-on (relateAnswer (arcAt (a .a .now)) (arcAt (a .b .now))) (j .next-judged .ensures) (a .out .now) (v .before .before .before .if1 .left) (simp (v .before .arc-at .ensures, v .arc-at2 .ensures) at (l .before .relate .ensures)) (l .leave-related .ensures)))
+    (λ c. let l = c .before .before in
+    let v = l .before .before in
+    let j = v .before .before .before .before in
+    let a = j .before .before .before .before .args in
+    went-on (relateAnswer (arcAt (a .a .now)) (arcAt (a .b .now))) (j .next-judged .ensures) (a .out .now) (v .before .before .before .if1 .left) (simp (v .before .arc-at .ensures, v .arc-at2 .ensures) at (l .before .relate .ensures)) (l .leave-related .ensures)))

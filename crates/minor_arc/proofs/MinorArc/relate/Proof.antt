@@ -8,7 +8,7 @@ unfolding relationOf
 relate-spec =
     tie.close
     (tie.spec
-    (λ c κs. search needs) (λ c. search needs) (λ c. search needs) (λ c κs. search needs) (λ c. search needs)
+    (λ c κs. tt) (λ c. search needs) (λ c. search needs) (λ c κs. tt) (λ c. search needs)
     (λ c. search needs)
     (λ c. simp (← c .before .before .meeting .ensures, c .enum-told .given .1))
     (λ c. simp (← c .before .before .before .meeting .ensures, c .before .enum-told2 .given .1) (c .relate-collinear .ensures))

@@ -1,5 +1,4 @@
 use Rattle.minor_arc.specs.Arcs.{arcSide}
-use borrow.Author.Needs.{needs}
 use Rattle.minor_arc.proofs.MinorArc.side_of.Statement.{statement}
 use Rattle.minor_arc.proofs.MinorArc.side_of.Tie as tie
 
@@ -8,7 +7,9 @@ unfolding arcSide
 side-of-spec =
     tie.close
     (tie.spec
-    (λ c κs. search needs) (λ c κs. search needs)
+    (λ c κs. tt) (λ c κs. tt)
     (λ c. simp (← c .before .before .dot-prod .ensures, ← c .before .eq-zero .ensures, c .if1 .taken))
-    (λ c. let e = c .before .before in simp (← e .before .dot-prod .ensures, ← e .eq-zero .ensures, c .before .if1 .left, c .if2 .taken))
-    (λ c. let e = c .before .before in simp (← e .before .dot-prod .ensures, ← e .eq-zero .ensures, c .before .if1 .left, c .if2 .left)))
+    (λ c. let e = c .before .before in
+    simp (← e .before .dot-prod .ensures, ← e .eq-zero .ensures, c .before .if1 .left, c .if2 .taken))
+    (λ c. let e = c .before .before in
+    simp (← e .before .dot-prod .ensures, ← e .eq-zero .ensures, c .before .if1 .left, c .if2 .left)))

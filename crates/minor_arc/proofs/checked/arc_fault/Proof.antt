@@ -1,5 +1,4 @@
 use Rattle.minor_arc.specs.Answers.{arcFault}
-use borrow.Author.Needs.{needs}
 use Rattle.minor_arc.proofs.checked.arc_fault.Statement.{statement}
 use Rattle.minor_arc.proofs.checked.arc_fault.Tie as tie
 
@@ -8,6 +7,7 @@ unfolding arcFault
 arc-fault-spec =
     tie.close
     (tie.spec
-    (λ c κs. search needs) (λ c κs. search needs) (λ c κs. search needs) (λ c κs. search needs)
-    (λ c κs. search needs)
-    (λ c. let e = c .before .before in simp (c .first2 .ensures, c .before .vector-fault .ensures, e .first .ensures, e .before .fault2 .ensures, e .before .before .fault .ensures)))
+    (λ c κs. tt) (λ c κs. tt) (λ c κs. tt) (λ c κs. tt)
+    (λ c κs. tt)
+    (λ c. let e = c .before .before in
+    simp (c .first2 .ensures, c .before .vector-fault .ensures, e .first .ensures, e .before .fault2 .ensures, e .before .before .fault .ensures)))

@@ -1,6 +1,5 @@
 use Rattle.minor_arc.proofs.Judged.{judged-hit, judged-none}
 use Rattle.minor_arc.specs.Answers.{newTold}
-use borrow.Author.Needs.{needs}
 use Rattle.minor_arc.proofs.checked.new.Statement.{statement}
 use Rattle.minor_arc.proofs.checked.new.Tie as tie
 
@@ -9,8 +8,12 @@ unfolding newTold
 new-spec =
     tie.close
     (tie.spec
-    (λ c κs. search needs) (λ c κs. search needs) (λ c κs. search needs) (λ c κs. search needs)
-    (λ c κs. search needs)
-    (λ c. let q = c .before in let k = q .before .before .before in judged-hit _ (simp (q .before .fault2 .ensures, q .before .before .fault .ensures, k .clear2 .ensures, k .before .clear .ensures) at (q .first .ensures)) (c .if1 .taken))
-    (λ c κs. search needs)
-    (λ c. let q = c .before .before in let k = q .before .before .before in judged-none _ (simp (q .before .fault2 .ensures, q .before .before .fault .ensures, k .clear2 .ensures, k .before .clear .ensures) at (q .first .ensures)) (c .before .if1 .left) (simp (c .new .ensures, k .clear2 .ensures, k .before .clear .ensures))))
+    (λ c κs. tt) (λ c κs. tt) (λ c κs. tt) (λ c κs. tt)
+    (λ c κs. tt)
+    (λ c. let q = c .before in
+    let k = q .before .before .before in
+    judged-hit _ (simp (q .before .fault2 .ensures, q .before .before .fault .ensures, k .clear2 .ensures, k .before .clear .ensures) at (q .first .ensures)) (c .if1 .taken))
+    (λ c κs. tt)
+    (λ c. let q = c .before .before in
+    let k = q .before .before .before in
+    judged-none _ (simp (q .before .fault2 .ensures, q .before .before .fault .ensures, k .clear2 .ensures, k .before .clear .ensures) at (q .first .ensures)) (c .before .if1 .left) (simp (c .new .ensures, k .clear2 .ensures, k .before .clear .ensures))))

@@ -1,6 +1,5 @@
 use Rattle.minor_arc.proofs.Judged.{judged-hit, judged-none}
 use Rattle.minor_arc.specs.Answers.{oppositeTold}
-use borrow.Author.Needs.{needs}
 use Rattle.minor_arc.proofs.checked.opposite.Statement.{statement}
 use Rattle.minor_arc.proofs.checked.opposite.Tie as tie
 
@@ -9,7 +8,9 @@ unfolding oppositeTold
 opposite-spec =
     tie.close
     (tie.spec
-    (λ c κs. search needs) (λ c κs. search needs)
-    (λ c. let q = c .before in judged-hit _ (simp (q .before .read .ensures) at (q .arc-fault .ensures)) (c .if1 .taken))
-    (λ c κs. search needs)
-    (λ c. let q = c .before .before in judged-none _ (simp (q .before .read .ensures) at (q .arc-fault .ensures)) (c .before .if1 .left) (simp (c .opposite .ensures, q .before .read .ensures))))
+    (λ c κs. tt) (λ c κs. tt)
+    (λ c. let q = c .before in
+    judged-hit _ (simp (q .before .read .ensures) at (q .arc-fault .ensures)) (c .if1 .taken))
+    (λ c κs. tt)
+    (λ c. let q = c .before .before in
+    judged-none _ (simp (q .before .read .ensures) at (q .arc-fault .ensures)) (c .before .if1 .left) (simp (c .opposite .ensures, q .before .read .ensures))))

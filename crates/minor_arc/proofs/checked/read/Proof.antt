@@ -1,4 +1,3 @@
-use borrow.Author.Needs.{needs}
 use Rattle.minor_arc.proofs.checked.read.Statement.{statement}
 use Rattle.minor_arc.proofs.checked.read.Tie as tie
 
@@ -6,5 +5,5 @@ pub read-spec : {M : Type 1} → statement M
 read-spec =
     tie.close
     (tie.spec
-    (λ c κs. search needs) (λ c κs. search needs) (λ c κs. search needs)
+    (λ c κs. tt) (λ c κs. tt) (λ c κs. tt)
     (λ c. simp (c .clear3 .ensures, c .before .clear2 .ensures, c .before .before .clear .ensures)))

@@ -1,0 +1,11 @@
+use borrow.Author.Needs.{needs}
+use Rattle.checker.proofs.is_between.Statement.{statement}
+use Rattle.checker.proofs.is_between.Tie as tie
+
+pub is-between-spec : {M : Type 1} → statement M
+is-between-spec =
+    tie.close
+    (tie.spec
+    (λ c κs. search needs) (λ c κs. search needs) (λ c. search needs) (λ c. search needs) (λ c. search needs)
+    (λ c. search needs)
+    (λ c. simp (c .before .before .before .prior .ensures .0, c .before .before .later .ensures .0)))

@@ -1,0 +1,11 @@
+use borrow.Author.Needs.{needs}
+use Rattle.exports.proofs.leaves.point_or.Statement.{statement}
+use Rattle.exports.proofs.leaves.point_or.Tie as tie
+
+pub point-or-spec : {M : Type 1} → statement M
+point-or-spec =
+    tie.close
+    (tie.spec
+    (λ c. search needs) (λ c. search needs)
+    (λ c. simp (c .enum-told .given .1))
+    (λ c. search needs))

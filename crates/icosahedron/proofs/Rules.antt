@@ -1,0 +1,22 @@
+-- The rules of the two tables, each proved once by a test that antt computes over the whole table. Assumes nothing.
+use Prim.Native.Nat.{ℕ}
+use mathlib.Core.Path.{_≡_, refl}
+use lib.ListN.{length}
+use lib.Ieee.{add, mul, le, ofBits}
+use Rattle.laws.specs.Loop.{flat, firstOf}
+use Rattle.judge.specs.Judge.{vectorFault, faultOf, positionsFault}
+use Rattle.icosahedron.specs.Table.{positions, triples, rule}
+
+-- the triples are those of document 01's rule
+pub triples-by-the-rule : triples ≡ rule
+unfolding triples rule flat
+triples-by-the-rule = refl
+
+pub triples-size : length triples ≡ 60
+unfolding triples
+triples-size = refl
+
+-- no position of the table would be refused
+pub positions-fine : positionsFault positions 12 ≡ 0
+unfolding positions firstOf faultOf vectorFault add mul le ofBits
+positions-fine = refl

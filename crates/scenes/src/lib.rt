@@ -1,0 +1,249 @@
+// A scene: its records taken one after the other, each area's ring in the unused rest of one store, each answer as a line.
+ghost use mathlib.Core.Path.{_≡_};
+ghost use lib.Ieee.{Float};
+ghost use mathlib.Core.List.{List};
+ghost use Prim.Native.Nat.{ℕ, _+_, _*_, _≤_, _<_};
+ghost use lib.ListN.{length, getD};
+ghost use Rattle.build.specs.Build as B;
+ghost use Rattle.ask.specs.Answers.{toldPlaced};
+ghost use Rattle.relate.specs.Relate.{toldRelated};
+ghost use Rattle.triangles.specs.Triangles.{toldCut};
+ghost use Rattle.records.specs.Records.{floatsAt};
+ghost use Rattle.scenes.specs.Areas as Ar;
+ghost use Rattle.scenes.specs.Scenes as Sc;
+use ask::Placed;
+use build::Built;
+use header::Header;
+use lines::Line;
+use records::Fault;
+use records::Read;
+use relate::Related;
+use triangles::Cut;
+use vec3::Vec3;
+
+// An area that was met: its number, where its ring starts in the store, and its header.
+pub struct Area {
+    pub number: usize,
+    pub start: usize,
+    pub header: Header,
+}
+
+// What is known between two records, beside the store.
+pub struct Notes {
+    pub at: usize,
+    pub records: usize,
+    pub met: usize,
+    pub given: usize,
+    pub used: usize,
+    pub areas: [Area; 16],
+}
+
+// Whether an area may come in.
+pub enum Judged {
+    Fine,
+    Bad(Fault),
+}
+
+// What a record comes to: there is none, its fault, a call's own refusal, or its line and the notes after it.
+pub enum Stepped {
+    End,
+    Bad(Fault),
+    Refused(u8),
+    Line(Line, Notes),
+}
+
+// The place of a number among the areas met, or how many there are.
+fn index_of(c: Notes, number: usize) -> usize
+    requires { ⌜ Ar.Kept c ⌝ }
+    ensures { λ r. ⌜ r ≡ Ar.indexOf (Ar.areasOf c) number ⌝ }
+    ensures { λ r. ⌜ r ≤ c .met ⌝ }
+{
+    let met = c.met;
+    let areas = c.areas;
+    for i in 0..met {
+        if areas[i].number == number {
+            return i;
+        }
+    }
+    met
+}
+
+fn area_of(c: Notes, i: usize) -> Area
+    requires { ⌜ (i < c .met) × Ar.Kept c ⌝ }
+    ensures { λ r. ⌜ r ≡ getD (Ar.areasOf c) i Ar.nobody ⌝ }
+{
+    let areas = c.areas;
+    areas[i]
+}
+
+// The positions of a record built into the unused rest of the store, through a lent list of their exact size.
+fn build_from(
+    s: &[u8],
+    at: usize,
+    count: usize,
+    used: usize,
+    list: &mut [f64],
+    positions: &mut [f64],
+    normals: &mut [f64],
+    classes: &mut [u8],
+) -> Built
+    requires { ⌜ Ar.Room (now s) at count used (length (now list)) (length (now positions)) (length (now normals)) (length (now classes)) ⌝ }
+    ensures { λ r. ⌜ record { answer = B.told r; positions = now (positions .exit); normals = now (normals .exit); classes = now (classes .exit) } ≡ Ar.builtAt (floatsAt (now (s .entry)) at count) used (now (positions .entry)) (now (normals .entry)) (now (classes .entry)) ⌝ }
+{
+    records::read_positions(s, at, count, list);
+    let from = 3 * used;
+    build::build(list, &mut positions[from..], &mut normals[from..], &mut classes[used..])
+}
+
+// The same through a work list: a record has room for more positions than a loop may have, and refusal 2 is the builder's own.
+fn build_area(
+    s: &[u8],
+    at: usize,
+    count: usize,
+    used: usize,
+    positions: &mut [f64],
+    normals: &mut [f64],
+    classes: &mut [u8],
+) -> Built
+    requires { ⌜ (count ≤ 1024) × Ar.Room (now s) at count used (3 * count) (length (now positions)) (length (now normals)) (length (now classes)) ⌝ }
+    ensures { λ r. ⌜ record { answer = B.told r; positions = now (positions .exit); normals = now (normals .exit); classes = now (classes .exit) } ≡ Ar.builtAt (floatsAt (now (s .entry)) at count) used (now (positions .entry)) (now (normals .entry)) (now (classes .entry)) ⌝ }
+{
+    let size = 3 * count;
+    let mut list = [0.0f64; 3072];
+    build_from(s, at, count, used, &mut list[..size], positions, normals, classes)
+}
+
+// How many triangles a cut comes to: none where it is refused.
+fn counted(cut: Cut) -> usize
+    ensures { λ r. ⌜ r ≡ Ar.counted (toldCut cut) ⌝ }
+{
+    match cut {
+        Cut::Refused(_) => 0,
+        Cut::Triangles(n) => n,
+    }
+}
+
+fn place_in(a: Area, positions: &[f64], normals: &[f64], classes: &[u8], p: Vec3) -> Placed
+    requires { ⌜ Ar.Lies a (now positions) (now normals) (now classes) ⌝ }
+    ensures { λ r. ⌜ toldPlaced r ≡ Ar.placeIn a (now (positions .entry)) (now (normals .entry)) (now (classes .entry)) p ⌝ }
+{
+    let start = a.start;
+    let h = a.header;
+    let end = start + h.count;
+    let from = 3 * start;
+    let to = 3 * end;
+    ask::contains_position(h, &positions[from..to], &normals[from..to], &classes[start..end], p)
+}
+
+fn pair_in(a: Area, b: Area, positions: &[f64], normals: &[f64], classes: &[u8]) -> Related
+    requires { ⌜ Ar.Lies a (now positions) (now normals) (now classes) × Ar.Lies b (now positions) (now normals) (now classes) ⌝ }
+    ensures { λ r. ⌜ toldRelated r ≡ Ar.pairIn a b (now (positions .entry)) (now (normals .entry)) (now (classes .entry)) ⌝ }
+{
+    let start = a.start;
+    let h = a.header;
+    let end = start + h.count;
+    let from = 3 * start;
+    let to = 3 * end;
+    let begin = b.start;
+    let o = b.header;
+    let last = begin + o.count;
+    let first = 3 * begin;
+    let until = 3 * last;
+    relate::relate(
+        h,
+        &positions[from..to],
+        &normals[from..to],
+        &classes[start..end],
+        o,
+        &positions[first..until],
+        &normals[first..until],
+        &classes[begin..last],
+    )
+}
+
+fn triangle_count(a: Area, positions: &[f64], normals: &[f64], classes: &[u8]) -> usize
+    requires { ⌜ Ar.Lies a (now positions) (now normals) (now classes) ⌝ }
+    ensures { λ r. ⌜ r ≡ Ar.triangleCount a (now (positions .entry)) (now (classes .entry)) ⌝ }
+{
+    let start = a.start;
+    let h = a.header;
+    let end = start + h.count;
+    let from = 3 * start;
+    let to = 3 * end;
+    let mut triangles = [0u16; 1530];
+    counted(triangles::triangulate(h, &positions[from..to], &classes[start..end], &mut triangles))
+}
+
+// A scene's notes before its first record.
+fn fresh() -> Notes
+    ensures { λ r. ⌜ Ar.Fresh r ⌝ }
+{
+    let nobody = Area {
+        number: 0,
+        start: 0,
+        header: header::empty(),
+    };
+    Notes {
+        at: 0,
+        records: 0,
+        met: 0,
+        given: 0,
+        used: 0,
+        areas: [nobody; 16],
+    }
+}
+
+// The notes after a record of `size` bytes that brought no area.
+fn passed(c: Notes, size: usize) -> Notes
+    requires { ⌜ (c .at + size ≤ 65536) × (c .records ≤ 65536) ⌝ }
+    ensures { λ r. ⌜ r ≡ Ar.passedNotes c size ⌝ }
+{
+    let areas = c.areas;
+    Notes {
+        at: c.at + size,
+        records: c.records + 1,
+        met: c.met,
+        given: c.given,
+        used: c.used,
+        areas,
+    }
+}
+
+// The notes after an area of `count` given positions.
+fn added(c: Notes, a: Area, count: usize) -> Notes
+    requires { ⌜ Ar.Addable c a count ⌝ }
+    ensures { λ r. ⌜ r ≡ Ar.addedNotes c a count ⌝ }
+{
+    let met = c.met;
+    let mut areas = c.areas;
+    let h = a.header;
+    areas[met] = a;
+    Notes {
+        at: c.at + 8 + 24 * count,
+        records: c.records + 1,
+        met: met + 1,
+        given: c.given + count,
+        used: c.used + h.count,
+        areas,
+    }
+}
+
+// Faults of an area record, ahead of the builder's refusals.
+fn judge_area(c: Notes, number: usize, count: usize) -> Judged
+    requires { ⌜ Ar.Kept c × (c .given ≤ 1024) × (count ≤ 65536) ⌝ }
+    ensures { λ r. ⌜ ((ps ns : List Float) (cs : List ℕ) → r ≡ Sc.judgeArea (Ar.view c ps ns cs) number count) ⌝ }
+{
+    if number == 0 {
+        return Judged::Bad(Fault::NoNumber);
+    }
+    if index_of(c, number) < c.met {
+        return Judged::Bad(Fault::Repeated);
+    }
+    if 16 <= c.met {
+        return Judged::Bad(Fault::ManyAreas);
+    }
+    if 1024 < c.given + count {
+        return Judged::Bad(Fault::ManyPositions);
+    }
+    Judged::Fine
+}

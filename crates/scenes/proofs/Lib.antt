@@ -1,2 +1,5 @@
 pub mod Tables
 pub mod Stores
+pub mod Counts
+pub mod Steps
+pub mod Goods

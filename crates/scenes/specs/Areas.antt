@@ -132,6 +132,10 @@ pub record Addable (c : Notes) (a : Area) (count : ℕ) : Type 0 where
   pub given : c .given + count ≤ 1024
   pub corners : c .used + a .header .count ≤ 1024
 
+-- the area that a header comes in as
+abbrev pub noted : Notes → ℕ → Header → Area
+noted c number h = record { number = number; start = c .used; header = h }
+
 abbrev pub addedNotes : Notes → Area → ℕ → Notes
 addedNotes c a count = record {
   at = c .at + 8 + 24 * count;

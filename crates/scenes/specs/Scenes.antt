@@ -27,7 +27,8 @@ use Rattle.scenes.specs.declared.Notes.{Notes}
 use Rattle.scenes.specs.declared.Judged.{Judged}
 use Rattle.scenes.specs.declared.Judged.the-variants.{Fine, Bad}
 use Rattle.scenes.specs.declared.Stepped.{Stepped}
-use Rattle.scenes.specs.declared.Stepped.the-variants as Stepped
+use Rattle.scenes.specs.declared.Outcome.{Outcome}
+use Rattle.scenes.specs.declared.Outcome.the-variants as Outcome
 use Rattle.scenes.specs.Areas.{Scene, nobody, indexOf, builtAt, triangleCount, placeIn, pairIn, Kept, view}
 
 -- what a record comes to: there is none, its fault, a call's own refusal, or its line and the scene after it
@@ -51,12 +52,12 @@ passedBy size w = record {
 }
 
 -- ---- kind 1: "area number 0, repeated", "too many areas, positions"
-unfoldable pub judgeArea : Scene → ℕ → ℕ → Judged
-judgeArea w number count =
+unfoldable pub judgeArea : List Area → ℕ → ℕ → ℕ → Judged
+judgeArea areas given number count =
     cond (eqb number 0) (Bad NoNumber)
-    (cond (ltb (indexOf (w .areas) number) (length (w .areas))) (Bad Repeated)
-    (cond (leb 16 (length (w .areas))) (Bad ManyAreas)
-    (cond (ltb 1024 (w .given + count)) (Bad ManyPositions) Fine)))
+    (cond (ltb (indexOf areas number) (length areas)) (Bad Repeated)
+    (cond (leb 16 (length areas)) (Bad ManyAreas)
+    (cond (ltb 1024 (given + count)) (Bad ManyPositions) Fine)))
 
 -- the scene with one area more
 abbrev pub withArea : Scene → Area → ℕ → Out → Scene
@@ -91,7 +92,7 @@ areaBy (Bad f) s w number count = faulty f
 areaBy Fine s w number count = areaMade s w number count
 
 unfoldable pub areaStep : List ℕ → Scene → ℕ → ℕ → Step
-areaStep s w number count = areaBy (judgeArea w number count) s w number count
+areaStep s w number count = areaBy (judgeArea (w .areas) (w .given) number count) s w number count
 
 -- the area of a number that was met
 abbrev pub met : Scene → ℕ → Area
@@ -173,21 +174,36 @@ pub record Good (s : List ℕ) (w : Scene) : Type 0 where
   pub few : length (w .areas) ≤ 16
   pub used-given : w .used ≤ w .given
   pub given-most : w .given ≤ 1024
-  pub positions-size : length (w .positions) ≡ 3072
-  pub normals-size : length (w .normals) ≡ 3072
-  pub classes-size : length (w .classes) ≡ 1024
   pub inside : (i : ℕ) → i < length (w .areas) → getD (w .areas) i nobody .start + getD (w .areas) i nobody .header .count ≤ w .used
 
 -- the program's answer to a record, with the store as it left it
-abbrev pub toldStep : Stepped → List Float → List Float → List ℕ → Step
-toldStep Stepped.End ps ns cs = ended
-toldStep (Stepped.Bad f) ps ns cs = faulty f
-toldStep (Stepped.Refused k) ps ns cs = refused k
-toldStep (Stepped.Line line next) ps ns cs = wrote line (view next ps ns cs)
+abbrev pub outcomeStep : Outcome → Scene → Step
+outcomeStep Outcome.End w = ended
+outcomeStep (Outcome.Bad f) w = faulty f
+outcomeStep (Outcome.Refused k) w = refused k
+outcomeStep (Outcome.Line line) w = wrote line w
 
--- the table of areas is kept
-abbrev pub keptBy : Stepped → Type 0
-keptBy Stepped.End = 0 ≤ 0
-keptBy (Stepped.Bad f) = 0 ≤ 0
-keptBy (Stepped.Refused k) = 0 ≤ 0
-keptBy (Stepped.Line line next) = Kept next
+abbrev pub toldStep : Stepped → List Float → List Float → List ℕ → Step
+toldStep r ps ns cs = outcomeStep (r .outcome) (view (r .next) ps ns cs)
+
+-- an answer told, as the program's outcome
+abbrev pub placeOutcome : Told → ℕ → Outcome
+placeOutcome (Ask.refused k) number = Outcome.Refused k
+placeOutcome (Ask.answer n) number = Outcome.Line (Line.Place number n)
+
+abbrev pub pairOutcome : Told → ℕ → ℕ → Outcome
+pairOutcome (Ask.refused k) number other = Outcome.Refused k
+pairOutcome (Ask.answer n) number other = Outcome.Line (Line.Pair number other n)
+
+-- the store has 1,024 corners
+pub record Sized (positions normals classes : ℕ) : Type 0 where
+  pub of-positions : positions ≡ 3072
+  pub of-normals : normals ≡ 3072
+  pub of-classes : classes ≡ 1024
+
+-- what the taking of a record is handed: its bytes are all there
+pub record Ready (s : List ℕ) (c : Notes) (size : ℕ) (ps ns : List Float) (cs : List ℕ) : Type 0 where
+  pub good : Good s (view c ps ns cs)
+  pub kept : Kept c
+  pub sized : Sized (length ps) (length ns) (length cs)
+  pub whole : c .at + size ≤ length s

@@ -1,8 +1,6 @@
 // A scene: its records taken one after the other, each area's ring in the unused rest of one store, each answer as a line.
 ghost use mathlib.Core.Path.{_≡_};
-ghost use lib.Ieee.{Float};
-ghost use mathlib.Core.List.{List};
-ghost use Prim.Native.Nat.{ℕ, _+_, _*_, _≤_, _<_};
+ghost use Prim.Native.Nat.{_+_, _*_, _≤_, _<_};
 ghost use lib.ListN.{length, getD};
 ghost use Rattle.build.specs.Build as B;
 ghost use Rattle.ask.specs.Answers.{toldPlaced};
@@ -44,12 +42,18 @@ pub enum Judged {
     Bad(Fault),
 }
 
-// What a record comes to: there is none, its fault, a call's own refusal, or its line and the notes after it.
-pub enum Stepped {
+// What a record comes to: there is none, its fault, a call's own refusal, or its line.
+pub enum Outcome {
     End,
     Bad(Fault),
     Refused(u8),
-    Line(Line, Notes),
+    Line(Line),
+}
+
+// The same with the notes after it, which stand beside it since they hold an array.
+pub struct Stepped {
+    pub outcome: Outcome,
+    pub next: Notes,
 }
 
 // The place of a number among the areas met, or how many there are.
@@ -231,7 +235,7 @@ fn added(c: Notes, a: Area, count: usize) -> Notes
 // Faults of an area record, ahead of the builder's refusals.
 fn judge_area(c: Notes, number: usize, count: usize) -> Judged
     requires { ⌜ Ar.Kept c × (c .given ≤ 1024) × (count ≤ 65536) ⌝ }
-    ensures { λ r. ⌜ ((ps ns : List Float) (cs : List ℕ) → r ≡ Sc.judgeArea (Ar.view c ps ns cs) number count) ⌝ }
+    ensures { λ r. ⌜ r ≡ Sc.judgeArea (Ar.areasOf c) (c .given) number count ⌝ }
 {
     if number == 0 {
         return Judged::Bad(Fault::NoNumber);
@@ -246,4 +250,165 @@ fn judge_area(c: Notes, number: usize, count: usize) -> Judged
         return Judged::Bad(Fault::ManyPositions);
     }
     Judged::Fine
+}
+
+// The line of an area that was built, and the notes with it.
+fn area_line(
+    c: Notes,
+    number: usize,
+    count: usize,
+    h: Header,
+    positions: &[f64],
+    normals: &[f64],
+    classes: &[u8],
+) -> Stepped
+    requires { ⌜ Ar.Lies (Ar.noted c number h) (now positions) (now normals) (now classes) × Ar.Addable c (Ar.noted c number h) count ⌝ }
+    ensures { λ r. ⌜ r ≡ record { outcome = Outcome.Line (Line.Area number h (Ar.triangleCount (Ar.noted c number h) (now (positions .entry)) (now (classes .entry)))); next = Ar.addedNotes c (Ar.noted c number h) count } ⌝ }
+{
+    let a = Area {
+        number,
+        start: c.used,
+        header: h,
+    };
+    let triangles = triangle_count(a, positions, normals, classes);
+    Stepped {
+        outcome: Outcome::Line(Line::Area(number, h, triangles)),
+        next: added(c, a, count),
+    }
+}
+
+// An area that may come in is built; its own refusal ends the scene.
+fn area_made(
+    s: &[u8],
+    c: Notes,
+    number: usize,
+    count: usize,
+    positions: &mut [f64],
+    normals: &mut [f64],
+    classes: &mut [u8],
+) -> Stepped
+    requires { ⌜ Sc.Ready (now s) c (8 + 24 * count) (now positions) (now normals) (now classes) × (Judged.Fine ≡ Sc.judgeArea (Ar.areasOf c) (c .given) number count) ⌝ }
+    ensures { λ r. ⌜ Sc.toldStep r (now (positions .exit)) (now (normals .exit)) (now (classes .exit)) ≡ Sc.areaMade (now (s .entry)) (Ar.view c (now (positions .entry)) (now (normals .entry)) (now (classes .entry))) number count ⌝ }
+    ensures { λ r. ⌜ Ar.Kept (r .next) ⌝ }
+{
+    match build_area(s, c.at + 8, count, c.used, positions, normals, classes) {
+        Built::Refused(k) => Stepped {
+            outcome: Outcome::Refused(k),
+            next: c,
+        },
+        Built::Loop(h) => area_line(c, number, count, h, positions, normals, classes),
+    }
+}
+
+fn area_step(
+    s: &[u8],
+    c: Notes,
+    number: usize,
+    count: usize,
+    positions: &mut [f64],
+    normals: &mut [f64],
+    classes: &mut [u8],
+) -> Stepped
+    requires { ⌜ Sc.Ready (now s) c (8 + 24 * count) (now positions) (now normals) (now classes) ⌝ }
+    ensures { λ r. ⌜ Sc.toldStep r (now (positions .exit)) (now (normals .exit)) (now (classes .exit)) ≡ Sc.areaStep (now (s .entry)) (Ar.view c (now (positions .entry)) (now (normals .entry)) (now (classes .entry))) number count ⌝ }
+    ensures { λ r. ⌜ Ar.Kept (r .next) ⌝ }
+{
+    match judge_area(c, number, count) {
+        Judged::Bad(f) => Stepped {
+            outcome: Outcome::Bad(f),
+            next: c,
+        },
+        Judged::Fine => area_made(s, c, number, count, positions, normals, classes),
+    }
+}
+
+// The line of a place, by its answer's number.
+fn place_told(p: Placed, number: usize) -> Outcome
+    ensures { λ r. ⌜ r ≡ Sc.placeOutcome (toldPlaced p) number ⌝ }
+{
+    match p {
+        Placed::Refused(k) => Outcome::Refused(k),
+        Placed::Outside => Outcome::Line(Line::Place(number, 0)),
+        Placed::Inside => Outcome::Line(Line::Place(number, 1)),
+        Placed::Mute => Outcome::Line(Line::Place(number, 2)),
+    }
+}
+
+fn place_step(
+    s: &[u8],
+    c: Notes,
+    number: usize,
+    positions: &[f64],
+    normals: &[f64],
+    classes: &[u8],
+) -> Stepped
+    requires { ⌜ Sc.Ready (now s) c 32 (now positions) (now normals) (now classes) ⌝ }
+    ensures { λ r. ⌜ Sc.toldStep r (now (positions .entry)) (now (normals .entry)) (now (classes .entry)) ≡ Sc.placeStep (now (s .entry)) (Ar.view c (now (positions .entry)) (now (normals .entry)) (now (classes .entry))) number ⌝ }
+    ensures { λ r. ⌜ Ar.Kept (r .next) ⌝ }
+{
+    let i = index_of(c, number);
+    if c.met <= i {
+        return Stepped {
+            outcome: Outcome::Bad(Fault::NotMet),
+            next: c,
+        };
+    }
+    let a = area_of(c, i);
+    let p = wire::vec_at(s, c.at + 8);
+    let placed = place_in(a, positions, normals, classes, p);
+    Stepped {
+        outcome: place_told(placed, number),
+        next: passed(c, 32),
+    }
+}
+
+// The line of a pair, by its relation's number.
+fn pair_told(p: Related, number: usize, other: usize) -> Outcome
+    ensures { λ r. ⌜ r ≡ Sc.pairOutcome (toldRelated p) number other ⌝ }
+{
+    match p {
+        Related::Refused(k) => Outcome::Refused(k),
+        Related::Disjoint => Outcome::Line(Line::Pair(number, other, 0)),
+        Related::Touching => Outcome::Line(Line::Pair(number, other, 1)),
+        Related::Intersecting => Outcome::Line(Line::Pair(number, other, 2)),
+        Related::Containing => Outcome::Line(Line::Pair(number, other, 3)),
+        Related::Within => Outcome::Line(Line::Pair(number, other, 4)),
+        Related::Equal => Outcome::Line(Line::Pair(number, other, 5)),
+    }
+}
+
+fn pair_step(
+    s: &[u8],
+    c: Notes,
+    number: usize,
+    other: usize,
+    positions: &[f64],
+    normals: &[f64],
+    classes: &[u8],
+) -> Stepped
+    requires { ⌜ Sc.Ready (now s) c 10 (now positions) (now normals) (now classes) ⌝ }
+    ensures { λ r. ⌜ Sc.toldStep r (now (positions .entry)) (now (normals .entry)) (now (classes .entry)) ≡ Sc.pairStep (Ar.view c (now (positions .entry)) (now (normals .entry)) (now (classes .entry))) number other ⌝ }
+    ensures { λ r. ⌜ Ar.Kept (r .next) ⌝ }
+{
+    let i = index_of(c, number);
+    if c.met <= i {
+        return Stepped {
+            outcome: Outcome::Bad(Fault::NotMet),
+            next: c,
+        };
+    }
+    let j = index_of(c, other);
+    if c.met <= j {
+        return Stepped {
+            outcome: Outcome::Bad(Fault::NotMet),
+            next: c,
+        };
+    }
+    let a = area_of(c, i);
+    let b = area_of(c, j);
+    let related = pair_in(a, b, positions, normals, classes);
+    Stepped {
+        outcome: pair_told(related, number, other),
+        next: passed(c, 10),
+    }
 }

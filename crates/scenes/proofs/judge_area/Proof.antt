@@ -1,28 +1,19 @@
+use Rattle.scenes.proofs.Steps.{met-count}
+use Rattle.scenes.specs.Scenes.{judgeArea}
+use borrow.Author.Tests.{eq-eqb, ne-eqb, lt-ltb, le-ltb, le-leb, lt-leb}
 use borrow.Author.Needs.{needs}
 use Rattle.scenes.proofs.judge_area.Statement.{statement}
 use Rattle.scenes.proofs.judge_area.Tie as tie
 
-returns : tie.Need-returns
-returns c = ?
-
-index-of-requires : tie.Need-index-of-requires
-index-of-requires c κs = search needs
-
-returns-2 : tie.Need-returns-2
-returns-2 c = ?
-
-returns-3 : tie.Need-returns-3
-returns-3 c = ?
-
-add-if4 : tie.Need-add-if4
-add-if4 c = search needs
-
-returns-4 : tie.Need-returns-4
-returns-4 c = ?
-
-returns-5 : tie.Need-returns-5
-returns-5 c = ?
-
 pub judge-area-spec : {M : Type 1} → statement M
+unfolding judgeArea
 judge-area-spec =
-    tie.close (tie.spec returns index-of-requires returns-2 returns-3 add-if4 returns-4 returns-5)
+    tie.close
+    (tie.spec
+    (λ c. simp (eq-eqb _ _ (c .if1 .taken)))
+    (λ c κs. search needs)
+    (λ c. simp (ne-eqb _ _ (c .before .before .before .if1 .left), ← c .before .before .index-of .ensures .0, met-count _ (c .before .before .before .before .pre .0), lt-ltb _ _ (c .if2 .taken)))
+    (λ c. simp (ne-eqb _ _ (c .before .before .before .before .before .if1 .left), ← c .before .before .before .before .index-of .ensures .0, met-count _ (c .before .before .before .before .before .before .pre .0), le-ltb _ _ (c .before .before .if2 .left), le-leb _ _ (c .if3 .taken)))
+    (λ c. search needs)
+    (λ c. simp (ne-eqb _ _ (c .before .before .before .before .before .before .before .if1 .left), ← c .before .before .before .before .before .before .index-of .ensures .0, met-count _ (c .before .before .before .before .before .before .before .before .pre .0), le-ltb _ _ (c .before .before .before .before .if2 .left), lt-leb _ _ (c .before .before .if3 .left), lt-ltb _ _ (c .if4 .taken)))
+    (λ c. simp (ne-eqb _ _ (c .before .before .before .before .before .before .before .if1 .left), ← c .before .before .before .before .before .before .index-of .ensures .0, met-count _ (c .before .before .before .before .before .before .before .before .pre .0), le-ltb _ _ (c .before .before .before .before .if2 .left), lt-leb _ _ (c .before .before .if3 .left), le-ltb _ _ (c .if4 .left))))

@@ -3,3 +3,4 @@ pub mod Stores
 pub mod Counts
 pub mod Steps
 pub mod Goods
+pub mod Runs

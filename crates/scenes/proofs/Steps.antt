@@ -120,15 +120,18 @@ module _ {s : List ℕ} {c : Notes} {ps ns : List Float} {cs : List ℕ} (number
   may = rw (met-count c (r .kept)) at (allowed (areasOf c) (c .given) number count f)
 
   pub room : (count ≤ 1024) × Room s (c .at + 8) count (c .used) (3 * count) (length ps) (length ns) (length cs)
-  room = (omega (arith, may .few), record {
-    small = r .good .small;
-    within = omega (arith, r .whole);
-    exact = refl;
-    unused = omega (arith, r .good .used-given, r .good .given-most);
-    positions-size = r .sized .of-positions;
-    normals-size = r .sized .of-normals;
-    classes-size = r .sized .of-classes;
-  })
+  room = (
+    omega (arith, may .few),
+    record {
+      small = r .good .small;
+      within = omega (arith, r .whole);
+      exact = refl;
+      unused = omega (arith, r .good .used-given, r .good .given-most);
+      positions-size = r .sized .of-positions;
+      normals-size = r .sized .of-normals;
+      classes-size = r .sized .of-classes;
+    },
+  )
 
   -- what the build answered and left
   module _ {b : Built} {ps′ ns′ : List Float} {cs′ : List ℕ} (e : record { answer = B.told b; positions = ps′; normals = ns′; classes = cs′ } ≡ builtAt (floatsAt s (c .at + 8) count) (c .used) ps ns cs) where

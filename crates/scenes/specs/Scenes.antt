@@ -207,3 +207,22 @@ pub record Ready (s : List ℕ) (c : Notes) (size : ℕ) (ps ns : List Float) (c
   pub kept : Kept c
   pub sized : Sized (length ps) (length ns) (length cs)
   pub whole : c .at + size ≤ length s
+
+-- the line that an outcome prints, and whether the scene goes on after it
+abbrev pub lineOf : Outcome → ℕ → ℕ → Line
+lineOf Outcome.End records at = Line.End records
+lineOf (Outcome.Bad f) records at = Line.Refused (faultNumber f) at
+lineOf (Outcome.Refused k) records at = Line.Refused k at
+lineOf (Outcome.Line line) records at = line
+
+abbrev pub goesOn : Outcome → Bool
+goesOn Outcome.End = false
+goesOn (Outcome.Bad f) = false
+goesOn (Outcome.Refused k) = false
+goesOn (Outcome.Line line) = true
+
+-- room for the longest text: 45 bytes for each eight, and the last line
+pub record Running (s : List ℕ) (positions normals classes out : ℕ) : Type 0 where
+  pub small : length s ≤ 65536
+  pub sized : Sized positions normals classes
+  pub room : 393261 ≤ out

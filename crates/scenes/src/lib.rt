@@ -6,6 +6,7 @@ ghost use Rattle.build.specs.Build as B;
 ghost use Rattle.ask.specs.Answers.{toldPlaced};
 ghost use Rattle.relate.specs.Relate.{toldRelated};
 ghost use Rattle.triangles.specs.Triangles.{toldCut};
+ghost use Rattle.lines.specs.Lines.{Wrote};
 ghost use Rattle.records.specs.Records.{floatsAt};
 ghost use Rattle.scenes.specs.Areas as Ar;
 ghost use Rattle.scenes.specs.Scenes as Sc;
@@ -96,7 +97,12 @@ fn build_from(
 {
     records::read_positions(s, at, count, list);
     let from = 3 * used;
-    build::build(list, &mut positions[from..], &mut normals[from..], &mut classes[used..])
+    build::build(
+        list,
+        &mut positions[from..],
+        &mut normals[from..],
+        &mut classes[used..],
+    )
 }
 
 // The same through a work list: a record has room for more positions than a loop may have, and refusal 2 is the builder's own.
@@ -114,7 +120,16 @@ fn build_area(
 {
     let size = 3 * count;
     let mut list = [0.0f64; 3072];
-    build_from(s, at, count, used, &mut list[..size], positions, normals, classes)
+    build_from(
+        s,
+        at,
+        count,
+        used,
+        &mut list[..size],
+        positions,
+        normals,
+        classes,
+    )
 }
 
 // How many triangles a cut comes to: none where it is refused.
@@ -136,7 +151,13 @@ fn place_in(a: Area, positions: &[f64], normals: &[f64], classes: &[u8], p: Vec3
     let end = start + h.count;
     let from = 3 * start;
     let to = 3 * end;
-    ask::contains_position(h, &positions[from..to], &normals[from..to], &classes[start..end], p)
+    ask::contains_position(
+        h,
+        &positions[from..to],
+        &normals[from..to],
+        &classes[start..end],
+        p,
+    )
 }
 
 fn pair_in(a: Area, b: Area, positions: &[f64], normals: &[f64], classes: &[u8]) -> Related
@@ -175,7 +196,12 @@ fn triangle_count(a: Area, positions: &[f64], normals: &[f64], classes: &[u8]) -
     let from = 3 * start;
     let to = 3 * end;
     let mut triangles = [0u16; 1530];
-    counted(triangles::triangulate(h, &positions[from..to], &classes[start..end], &mut triangles))
+    counted(triangles::triangulate(
+        h,
+        &positions[from..to],
+        &classes[start..end],
+        &mut triangles,
+    ))
 }
 
 // A scene's notes before its first record.
@@ -411,4 +437,95 @@ fn pair_step(
         outcome: pair_told(related, number, other),
         next: passed(c, 10),
     }
+}
+
+// The record at the notes' offset, by its kind.
+fn step(
+    s: &[u8],
+    c: Notes,
+    positions: &mut [f64],
+    normals: &mut [f64],
+    classes: &mut [u8],
+) -> Stepped
+    requires { ⌜ Sc.Ready (now s) c 0 (now positions) (now normals) (now classes) ⌝ }
+    ensures { λ r. ⌜ Sc.toldStep r (now (positions .exit)) (now (normals .exit)) (now (classes .exit)) ≡ Sc.step (now (s .entry)) (Ar.view c (now (positions .entry)) (now (normals .entry)) (now (classes .entry))) ⌝ }
+    ensures { λ r. ⌜ Ar.Kept (r .next) ⌝ }
+{
+    match records::read_at(s, c.at) {
+        Read::End => Stepped {
+            outcome: Outcome::End,
+            next: c,
+        },
+        Read::Bad(f, _) => Stepped {
+            outcome: Outcome::Bad(f),
+            next: c,
+        },
+        Read::Area(number, count) => { area_step(s, c, number, count, positions, normals, classes) }
+        Read::Place(number) => place_step(s, c, number, positions, normals, classes),
+        Read::Pair(number, other) => pair_step(s, c, number, other, positions, normals, classes),
+    }
+}
+
+// The line of an outcome. Each fault is refusal 10 today.
+fn line_of(outcome: Outcome, records: usize, at: usize) -> Line
+    ensures { λ r. ⌜ r ≡ Sc.lineOf outcome records at ⌝ }
+{
+    match outcome {
+        Outcome::End => Line::End(records),
+        Outcome::Bad(_) => Line::Refused(10, at),
+        Outcome::Refused(k) => Line::Refused(k, at),
+        Outcome::Line(line) => line,
+    }
+}
+
+fn goes_on(outcome: Outcome) -> bool
+    ensures { λ r. ⌜ r ≡ Sc.goesOn outcome ⌝ }
+{
+    match outcome {
+        Outcome::End => false,
+        Outcome::Bad(_) => false,
+        Outcome::Refused(_) => false,
+        Outcome::Line(_) => true,
+    }
+}
+
+// The scene of at most 65,536 bytes, over a lent store.
+fn run_in(
+    s: &[u8],
+    positions: &mut [f64],
+    normals: &mut [f64],
+    classes: &mut [u8],
+    out: &mut [u8],
+) -> usize
+    requires { ⌜ Sc.Running (now s) (length (now positions)) (length (now normals)) (length (now classes)) (length (now out)) ⌝ }
+    ensures { λ r. ⌜ Wrote (now (out .entry)) 0 (Sc.linesOf (now (s .entry)) (now (positions .entry)) (now (normals .entry)) (now (classes .entry))) (now (out .exit)) r ⌝ }
+    ensures { λ r. ⌜ r ≤ 393261 ⌝ }
+{
+    let mut c = fresh();
+    let mut written = 0;
+    loop {
+        let r = step(s, c, positions, normals, classes);
+        let outcome = r.outcome;
+        written = lines::put_line(out, written, line_of(outcome, c.records, c.at));
+        if !goes_on(outcome) {
+            return written;
+        }
+        c = r.next;
+    }
+}
+
+// What the scene program prints for an input, written to `out`; answers how many bytes that is. 393,261 bytes are room for any scene:
+// a record of eight bytes or more prints a line of at most 45, so six bytes for each of 65,536 and the last line suffice.
+pub fn run(s: &[u8], out: &mut [u8]) -> usize
+    requires { ⌜ 393261 ≤ length (now out) ⌝ }
+    ensures { λ r. ⌜ Wrote (now (out .entry)) 0 (Sc.sceneText (now (s .entry))) (now (out .exit)) r ⌝ }
+    ensures { λ r. ⌜ r ≤ 393261 ⌝ }
+{
+    if 65536 < s.len() {
+        return lines::put_line(out, 0, Line::Refused(10, 0));
+    }
+    let mut positions = [0.0f64; 3072];
+    let mut normals = [0.0f64; 3072];
+    let mut classes = [0u8; 1024];
+    run_in(s, &mut positions, &mut normals, &mut classes, out)
 }

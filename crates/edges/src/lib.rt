@@ -14,7 +14,7 @@ use vec3::Point;
 use vec3::Vec3;
 
 // The place k, counted round.
-fn wrap(k: usize, n: usize) -> usize
+pub fn wrap(k: usize, n: usize) -> usize
     requires { ⌜ 0 < n ⌝ }
     ensures { λ r. ⌜ (r ≡ k % n) × (r < n) ⌝ }
 {

@@ -30,6 +30,16 @@ graded true touch = Crossed
 graded false true = Touched
 graded false false = Apart
 
+abbrev pub isCrossed : Contact → Bool
+isCrossed Apart = false
+isCrossed Touched = false
+isCrossed Crossed = true
+
+abbrev pub isTouched : Contact → Bool
+isTouched Apart = false
+isTouched Touched = true
+isTouched Crossed = false
+
 -- edge j of the other ring, os and om of m corners, against an arc
 abbrev pub crosses : MinorArc → List Float → List Float → ℕ → ℕ → Bool
 crosses a os om m j = isCrossing (relationOf a (edgeAt os om m j))
@@ -43,6 +53,9 @@ anyCrosses a os om m = anyOf (crosses a os om m) m 0
 
 unfoldable pub anyTouches : MinorArc → List Float → List Float → ℕ → Bool
 anyTouches a os om m = anyOf (touches a os om m) m 0
+
+abbrev pub arcContact : MinorArc → List Float → List Float → ℕ → Contact
+arcContact a os om m = graded (anyCrosses a os om m) (anyTouches a os om m)
 
 -- edge i of a ring against all edges of the other
 abbrev pub edgeCrosses : List Float → List Float → ℕ → List Float → List Float → ℕ → ℕ → Bool

@@ -28,8 +28,15 @@ abbrev pub freePoint : List Float → List Float → ℕ → Point → Bool
 freePoint rs rn m Absent = false
 freePoint rs rn m (At p) = not (onEdge rs rn m p)
 
-unfoldable pub freeMiddle : List Float → ℕ → List Float → List Float → ℕ → ℕ → Bool
+abbrev pub freeMiddle : List Float → ℕ → List Float → List Float → ℕ → ℕ → Bool
 freeMiddle ps n rs rn m i = freePoint rs rn m (middleAt ps n i)
+
+-- the first free corner, and the first edge with a free midpoint; n where there is none
+unfoldable pub firstCorner : List Float → ℕ → List Float → List Float → ℕ → ℕ
+firstCorner ps n rs rn m = firstAt (freeCorner ps rs rn m) n 0
+
+unfoldable pub firstMiddle : List Float → ℕ → List Float → List Float → ℕ → ℕ
+firstMiddle ps n rs rn m = firstAt (freeMiddle ps n rs rn m) n 0
 
 -- whether a midpoint is asked for: no corner is free. Document 01: "a pair that needed one leaves the domain"
 unfoldable pub askedMidpoint : List Float → ℕ → List Float → List Float → ℕ → Bool
@@ -42,10 +49,9 @@ asMiddle (At p) = Middle p
 -- the midpoint of the first edge that has a free one
 unfoldable pub middleProbe : List Float → ℕ → List Float → List Float → ℕ → Probe
 middleProbe ps n rs rn m =
-    let i = firstAt (freeMiddle ps n rs rn m) n 0 in
+    let i = firstMiddle ps n rs rn m in
     if ltb i n then asMiddle (middleAt ps n i) else Nowhere
 
 unfoldable pub probeOf : List Float → ℕ → List Float → List Float → ℕ → Probe
 probeOf ps n rs rn m =
-    if askedMidpoint ps n rs rn m then middleProbe ps n rs rn m
-    else Corner (posAt ps (firstAt (freeCorner ps rs rn m) n 0))
+    if askedMidpoint ps n rs rn m then middleProbe ps n rs rn m else Corner (posAt ps (firstCorner ps n rs rn m))

@@ -71,7 +71,7 @@ within ns i p = lt epsilon (depth ns i p)
 
 -- three corners: no corner, and right of each edge
 unfoldable pub inTriangle : List Float → List Float → Vec3 → Bool
-inTriangle ps ns p = not (hasVertex ps 3 p) && (within ns 0 p && within ns 1 p && within ns 2 p)
+inTriangle ps ns p = not (hasVertex ps 3 p) && within ns 0 p && within ns 1 p && within ns 2 p
 
 -- the same as the source nests its tests, for the theorem `nest-is`
 unfoldable pub sides : Float → Float → Float → Bool

@@ -173,10 +173,8 @@ pub fn in_triangle(positions: &[f64], normals: &[f64], p: Vec3) -> bool
     requires { ⌜ (9 ≤ length (now positions)) × (9 ≤ length (now normals)) ⌝ }
     ensures { λ r. ⌜ r ≡ P.inTriangle (now (positions .entry)) (now (normals .entry)) p ⌝ }
 {
-    if has_vertex(positions, 3, p) {
-        return false;
-    }
-    is_within(normals, 0, p) & is_within(normals, 1, p) & is_within(normals, 2, p)
+    let corner = has_vertex(positions, 3, p);
+    !corner & is_within(normals, 0, p) & is_within(normals, 1, p) & is_within(normals, 2, p)
 }
 
 // The side at corner i, by the corners before and after it.

@@ -21,7 +21,8 @@ crossed-evenly-spec =
     tie.close
     (tie.spec
     Inv-loop μ-loop
-    (λ c. turn refl)
+    (λ c κs. search needs)
+    (λ c. turn (simp (c .new .ensures)))
     (λ c κs. search needs)
     (λ c κs. search needs)
     (λ c κs. search needs)

@@ -1,21 +1,21 @@
 -- The checker accepts exactly the lists that cut the ring at eligible ears. Assumes nothing.
-use Prim.Native.Nat.{ℕ, zero, suc, _+_, _≤_, _<_}
-use mathlib.Core.Path.{_≡_, refl, sym, ap, _∙_, subst}
-use mathlib.Core.Bool.{Bool, true, false, _&&_, true≢false}
-use mathlib.Core.List.{List, [], _∷_, _++_}
+use Prim.Native.Nat.{ℕ, zero, suc, _+_, _<_}
+use mathlib.Core.Path.{_≡_, refl, sym, _∙_, subst}
+use mathlib.Core.Bool.{Bool, true, false, true≢false}
+use mathlib.Core.List.{List, [], _∷_}
 use native.Mathlib.Omega.{arith}
 use lib.Ieee.{Float}
 use lib.ListN.{length, getD}
 use lib.Dec.{eqb}
 use borrow.Author.Tests.{eqb-true, ltb-true, lt-ltb, eq-eqb, ne-eqb}
-use Rattle.rings.specs.Ring.{prev, next, earOf}
+use Rattle.rings.specs.Ring.{prev, next}
 use Rattle.rings.proofs.Places.{nth, Increasing, apart-at, increasing-without}
-use Rattle.ears.specs.Ears.{ear, Remaining, cutAt}
+use Rattle.ears.specs.Ears.{Remaining, cutAt}
 use Rattle.cutting.specs.Accepted.{CutBy, last, cut, Eligible}
 use Rattle.cutting.proofs.Firsts.{first-has, is-first}
 use Rattle.cutting.proofs.Relations.{length-cut}
-use Rattle.checker.specs.Accepted.{isNumber, placeOf, between, fitsAt, sameNumbers, accepts}
-use Rattle.checker.proofs.Followings.{both, accepts-on, accepts-off, accepts-end, fits-place}
+use Rattle.checker.specs.Accepted.{isNumber, placeOf, fitsAt, sameNumbers, accepts}
+use Rattle.checker.proofs.Followings.{both, accepts-on, accepts-off, accepts-end}
 
 same-is : (l m : List ℕ) → sameNumbers l m ≡ true → l ≡ m
 unfolding sameNumbers

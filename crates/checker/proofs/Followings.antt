@@ -2,18 +2,17 @@
 use Prim.Native.Nat.{ℕ, suc, _+_, _-_, _*_, _≤_, _<_}
 use mathlib.Core.Path.{_≡_, refl, sym, ap, _∙_}
 use mathlib.Core.Bool.{Bool, true, false, not, _&&_, true≢false}
-use mathlib.Core.List.{List, [], _∷_, _++_}
+use mathlib.Core.List.{List, _∷_, _++_}
 use native.Mathlib.Omega.{arith}
 use lib.Ieee.{Float}
 use lib.ListN.{length, take, drop, getD}
 use lib.Seq.{take-length}
 use borrow.Author.Tests.{ltb-true, not-true, not-false}
-use Rattle.laws.specs.Loop.{firstAt}
 use Rattle.laws.proofs.Loops.{firstAt-le}
 use Rattle.ears.specs.Ears.{Lent, Remaining, cutAt, cutIn}
 use Rattle.cutting.specs.Cutting.{wholeRing}
 use Rattle.cutting.proofs.Lefts.{left, Held, hold, cut-left, cut-held}
-use Rattle.checker.specs.Accepted.{isNumber, placeOf, between, fitsAt, sameNumbers, accepts, acceptsFrom}
+use Rattle.checker.specs.Accepted.{isNumber, placeOf, fitsAt, sameNumbers, accepts, acceptsFrom}
 use Rattle.checker.proofs.Lists.{triple}
 
 pub both : (p q : Bool) → p && q ≡ true → (p ≡ true) × (q ≡ true)

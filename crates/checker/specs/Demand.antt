@@ -1,5 +1,5 @@
 -- What demand 3 says of the lists that the checker accepts and of our cutting, in its own words beside each. Proved in proofs/Theorems.antt. Definitions only.
-use Prim.Native.Nat.{ℕ, _≤_, _<_}
+use Prim.Native.Nat.{ℕ, _<_}
 use mathlib.Core.Path.{_≡_}
 use mathlib.Core.Bool.{true, false}
 use mathlib.Core.List.{List}

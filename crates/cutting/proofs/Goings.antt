@@ -1,15 +1,15 @@
 -- A ring under the knife: what holds after t cuts, where m places are left. Assumes nothing.
-use Prim.Native.Nat.{ℕ, zero, suc, _+_, _-_, _*_, _≤_, _<_}
-use mathlib.Core.Path.{_≡_, refl, sym, ap, _∙_}
+use Prim.Native.Nat.{ℕ, suc, _+_, _-_, _*_, _≤_, _<_}
+use mathlib.Core.Path.{_≡_, refl, ap, _∙_}
 use mathlib.Core.Bool.{true, false}
-use mathlib.Core.List.{List, [], _∷_, _++_, append-assoc, append-nil}
+use mathlib.Core.List.{List, [], _++_, append-assoc, append-nil}
 use native.Mathlib.Omega.{arith}
 use lib.Ieee.{Float}
 use lib.ListN.{length, take, drop, length-append, length-drop}
 use lib.Seq.{sets, sets-eq, length-sets, take-at, take-length, drop-at, drop-drop}
 use Rattle.rings.specs.Ring.{earOf}
-use Rattle.ears.specs.Ears.{Lent, lowest, Remaining, cutAt, cutIn}
-use Rattle.cutting.specs.Cutting.{Cutting, ahead, cutting, cuttingFrom, Out, laid}
+use Rattle.ears.specs.Ears.{Lent, lowest, cutAt, cutIn}
+use Rattle.cutting.specs.Cutting.{Cutting, ahead, cutting, cuttingFrom, laid}
 use Rattle.cutting.proofs.Turns.{cutting-on, cutting-stuck, cutting-end, whole-three}
 use Rattle.cutting.proofs.Lefts.{left, Held, hold, found, cut-left, cut-held}
 

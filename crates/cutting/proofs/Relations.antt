@@ -1,18 +1,17 @@
 -- What is cut, as a relation. Assumes nothing.
-use Prim.Native.Nat.{ℕ, zero, suc, _+_, _<_, _≤_}
+use Prim.Native.Nat.{ℕ, zero, suc, _+_, _<_}
 use mathlib.Core.Path.{_≡_, refl, sym, ap, _∙_}
 use mathlib.Core.Bool.{true, false, true≢false}
-use mathlib.Core.List.{List, _++_}
+use mathlib.Core.List.{List}
 use native.Mathlib.Decide.{decLt}
 use native.Mathlib.Omega.{arith}
 use lib.Ieee.{Float}
 use lib.ListN.{length}
-use Rattle.rings.specs.Ring.{without, earOf}
 use Rattle.rings.specs.Cuts as C
 use Rattle.rings.proofs.Withouts.{length-without}
 use Rattle.ears.specs.Ears.{ear, Remaining, cutAt}
-use Rattle.cutting.specs.Cutting.{Cutting, ahead, lowestOf, cutting}
-use Rattle.cutting.specs.Accepted.{CutBy, last, cut, Eligible, Lowest}
+use Rattle.cutting.specs.Cutting.{Cutting, lowestOf, cutting}
+use Rattle.cutting.specs.Accepted.{CutBy, last, cut, Lowest}
 use Rattle.cutting.proofs.Firsts.{first-has, none-before}
 use Rattle.cutting.proofs.Turns.{cutting-on, cutting-stuck, cutting-end}
 

@@ -10,12 +10,11 @@ use lib.Seq.{take-length}
 use Rattle.rings.specs.Ring.{earOf}
 use Rattle.vec3.specs.declared.Point.{Point}
 use Rattle.vec3.specs.declared.Point.the-variants.{Absent, At}
-use Rattle.vec3.specs.Points.{triangleMean}
 use Rattle.ears.specs.Ears.{Lent, lowest, triangleAt, Remaining, cutAt, cutIn}
 use Rattle.cutting.specs.declared.Found.{Found}
 use Rattle.cutting.specs.declared.Found.the-variants as F
 use Rattle.cutting.specs.declared.Insides.{Insides}
-use Rattle.cutting.specs.Cutting.{Cutting, ahead, wholeRing, cutting}
+use Rattle.cutting.specs.Cutting.{wholeRing, cutting}
 use Rattle.cutting.specs.Insides.{withMean, isBoth, meanOf, withMeans, meansFrom, insidesFrom, insidesOf}
 use Rattle.cutting.proofs.Turns.{cutting-on, cutting-stuck, cutting-end, whole-three}
 use Rattle.cutting.proofs.Lefts.{left, Held, hold, found, cut-left, cut-held}

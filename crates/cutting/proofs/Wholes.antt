@@ -1,8 +1,8 @@
 -- A whole ring: what cutting it begins with, and what it leaves in the output. Assumes nothing.
 use Prim.Native.Nat.{ℕ, zero, suc, _+_, _-_, _*_, _≤_, _<_}
 use mathlib.Core.Path.{_≡_, refl, sym, ap, _∙_}
-use mathlib.Core.Bool.{Bool, true, false, not}
-use mathlib.Core.List.{List, [], _∷_, _++_, append-nil}
+use mathlib.Core.Bool.{Bool, true, false}
+use mathlib.Core.List.{List, _++_, append-nil}
 use native.Mathlib.Omega.{arith}
 use lib.Ieee.{Float}
 use lib.ListN.{length, drop, getD, drop-of-length-le}
@@ -12,7 +12,7 @@ use Rattle.laws.proofs.Copies.{length-flat}
 use Rattle.rings.specs.Ring.{Below, oneNumber, numbers}
 use Rattle.rings.proofs.Theorem.{counted}
 use Rattle.ears.specs.Ears.{Lent, Remaining}
-use Rattle.cutting.specs.Cutting.{Ring, Work, wholeRing, Cutting, cuttingFrom, cuttingOf, Out, laid, outOf}
+use Rattle.cutting.specs.Cutting.{Ring, Work, wholeRing, cuttingFrom, cuttingOf, Out, laid, outOf}
 use Rattle.cutting.proofs.Relations.{cuts, at-lowest}
 
 pub getD-numbers : (k i j : ℕ) → j < k → getD (flat oneNumber k i) j 0 ≡ i + j

@@ -7,4 +7,4 @@ cleared-spec =
     tie.close
     (tie.spec
     (λ c κs. search needs)
-    (λ c. ?))
+    (λ c. simp (c .new .ensures)))

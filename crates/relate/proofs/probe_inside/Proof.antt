@@ -8,6 +8,6 @@ probe-inside-spec =
     (tie.spec
     (λ c. search needs) (λ c. search needs) (λ c κs. search needs) (λ c κs. search needs) (λ c. search needs)
     (λ c κs. search needs) (λ c κs. search needs)
-    (λ c. ?)
-    (λ c. ?)
-    (λ c. ?))
+    (λ c. simp (c .enum-told .given .1))
+    (λ c. simp (c .before .before .before .at .given .1, c .is-inside .ensures, c .before .place .ensures))
+    (λ c. simp (c .before .before .before .at2 .given .1, c .is-inside2 .ensures, c .before .place2 .ensures)))

@@ -69,7 +69,8 @@ sound ps (suc k) s (a ∷ []) n e = absurd (true≢false (sym e))
 sound ps (suc k) s (a ∷ b ∷ []) n e = absurd (true≢false (sym e))
 sound ps (suc k) s (a ∷ b ∷ c ∷ rest) n e = go (fitsAt ps s (placeOf (s .ids) b) a c) refl (λ p q. sound ps k (cutAt ps s (placeOf (s .ids) b)) rest p q)
   where
-    go : (f : Bool) → fitsAt ps s (placeOf (s .ids) b) a c ≡ f → (length (cutAt ps s (placeOf (s .ids) b) .ids) ≡ k + 3 → accepts ps k (cutAt ps s (placeOf (s .ids) b)) rest ≡ true → CutBy ps (Eligible ps) (cutAt ps s (placeOf (s .ids) b)) rest) → CutBy ps (Eligible ps) s (a ∷ b ∷ c ∷ rest)
+    go : (f : Bool) → fitsAt ps s (placeOf (s .ids) b) a c ≡ f
+        → (length (cutAt ps s (placeOf (s .ids) b) .ids) ≡ k + 3 → accepts ps k (cutAt ps s (placeOf (s .ids) b)) rest ≡ true → CutBy ps (Eligible ps) (cutAt ps s (placeOf (s .ids) b)) rest) → CutBy ps (Eligible ps) s (a ∷ b ∷ c ∷ rest)
     go false f on = absurd (true≢false (sym e ∙ accepts-off ps k s a b c rest refl f))
     go true f on =
         let t = fits ps s (placeOf (s .ids) b) a c f in
@@ -82,7 +83,8 @@ ids-cut : (ps : List Float) (s : Remaining) (i : ℕ) → Increasing (s .ids) �
 unfolding cutAt
 ids-cut ps s i inc h = increasing-without (s .ids) inc i h
 
-pub complete : {ps : List Float} {s : Remaining} {tris : List ℕ} → CutBy ps (Eligible ps) s tris → Increasing (s .ids) → (k : ℕ) → length (s .ids) ≡ k + 3 → accepts ps k s tris ≡ true
+pub complete : {ps : List Float} {s : Remaining} {tris : List ℕ} → CutBy ps (Eligible ps) s tris → Increasing (s .ids) → (k : ℕ)
+    → length (s .ids) ≡ k + 3 → accepts ps k s tris ≡ true
 complete {ps} {s} (last e) inc zero n = accepts-end ps s (s .ids) ∙ is-same (s .ids)
 complete {ps} {s} (last e) inc (suc k) n = absurd (omega arith)
 complete {ps} {s} (cut i h p m c) inc zero n = absurd (omega arith)

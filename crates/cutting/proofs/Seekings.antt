@@ -23,7 +23,8 @@ means-none : (ps : List Float) (f : Found) → withMeans ps f [] ≡ f
 unfolding withMeans
 means-none ps f = refl
 
-means-ear : (ps : List Float) (f : Found) (ids rest : List ℕ) (i : ℕ) → withMeans ps f (earOf ids i ++ rest) ≡ withMeans ps (withMean f (meanOf (triangleAt ps ids i))) rest
+means-ear : (ps : List Float) (f : Found) (ids rest : List ℕ) (i : ℕ)
+    → withMeans ps f (earOf ids i ++ rest) ≡ withMeans ps (withMean f (meanOf (triangleAt ps ids i))) rest
 unfolding withMeans
 means-ear ps f ids rest i = refl
 
@@ -88,5 +89,6 @@ module _ {ps : List Float} {ids₀ classes₀ ids classes : List ℕ} {m : ℕ} 
       sym (g .rest ∙ rw (none, cutting-end ps (left ids classes m)) last)
 
 -- from the whole ring on
-pub of-whole : (ps : List Float) (classes : List ℕ) {s : Remaining} {f : Found} {r : Insides} → s ≡ wholeRing classes → f ≡ meansFrom ps s → r ≡ insidesFrom f → r ≡ insidesOf ps classes
+pub of-whole : (ps : List Float) (classes : List ℕ) {s : Remaining} {f : Found} {r : Insides} → s ≡ wholeRing classes → f ≡ meansFrom ps s
+    → r ≡ insidesFrom f → r ≡ insidesOf ps classes
 of-whole ps classes {s} {f} e p q = q ∙ ap (λ (f : Found). insidesFrom f) p ∙ ap (λ (s : Remaining). insidesFrom (meansFrom ps s)) e

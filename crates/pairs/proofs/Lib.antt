@@ -1,2 +1,3 @@
 pub mod Grades
 pub mod Firsts
+pub mod Orders

@@ -2,3 +2,4 @@ pub mod Rooms
 pub mod Writes
 pub mod Outs
 pub mod Unique
+pub mod Exact

@@ -3,3 +3,4 @@ pub mod Writes
 pub mod Outs
 pub mod Unique
 pub mod Exact
+pub mod Builts

@@ -9,6 +9,9 @@ use lib.ListN.{length, length-append}
 use lib.Seq.{sets, length-sets}
 use Rattle.laws.specs.Loop.{flat}
 use Rattle.laws.proofs.Copies.{one, copied}
+use lib.Ieee.{Float}
+use Rattle.header.specs.declared.Header.{Header}
+use Rattle.frames.specs.Frames.{floatBytesAt, floatsBytes, headerBytes}
 use Rattle.vec3.specs.declared.Vec3.{Vec3}
 use Rattle.wire.specs.Wire.{vecBytes}
 use Rattle.wire.proofs.Bytes.{sets-sets, eight}
@@ -57,3 +60,11 @@ two l a b i k p q e = rw (q, p) (sets-sets l a b i k e)
 -- 24 bytes a vector
 pub width : (v : Vec3) → length (vecBytes v) ≡ 24
 width v = simp (length-append, eight)
+
+pub floats-width : (l : List Float) → length (floatsBytes l) ≡ 8 * length l
+unfolding floatsBytes
+floats-width l = span (floatBytesAt l) (λ j. eight _) (length l) 0
+
+pub header-width : (h : Header) → length (headerBytes h) ≡ 88
+unfolding headerBytes
+header-width h = simp (length-append, eight)

@@ -51,8 +51,12 @@ toldBy q h ps ns cs p = judged (lengthFault (needsPosition q) (loopFault h ps ns
 abbrev pub askTold : Question → List ℕ → List ℕ → Told
 askTold q s p = judged (frameFault s) (toldBy q (headerAt s) (positionsAt s) (normalsAt s) (classesAt s) p)
 
-abbrev pub askOnly : Question → List ℕ → Told
-askOnly q s = askTold q s s
+-- of no position
+abbrev pub convexTold : List ℕ → Told
+convexTold s = judged (frameFault s) (convexAnswer (headerAt s) (positionsAt s) (normalsAt s) (classesAt s))
+
+abbrev pub simpleTold : List ℕ → Told
+simpleTold s = judged (frameFault s) (simpleAnswer (headerAt s) (positionsAt s) (normalsAt s) (classesAt s))
 
 -- "`desk_place_f64(header, positions, normals, classes, x, y, z)`"
 abbrev pub placeTold : List ℕ → List Float → List Float → List ℕ → Vec3 → Told

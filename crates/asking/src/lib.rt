@@ -44,21 +44,11 @@ pub fn answered(a: Answered) -> u32
 fn no_query(h: Header, positions: &[f64], normals: &[f64], classes: &[u8]) -> u32
     ensures { λ r. ⌜ r ≡ As.noQuery h (now (positions .entry)) (now (normals .entry)) (now (classes .entry)) ⌝ }
 {
-    refusal(judge::first(
-        header::loop_fault(h, positions, normals, classes),
-        1,
-    ))
+    refusal(judge::first(header::loop_fault(h, positions, normals, classes), 1))
 }
 
 // The answer to a question about a position.
-fn query(
-    q: Question,
-    h: Header,
-    positions: &[f64],
-    normals: &[f64],
-    classes: &[u8],
-    p: Vec3,
-) -> u32
+fn query(q: Question, h: Header, positions: &[f64], normals: &[f64], classes: &[u8], p: Vec3) -> u32
     ensures { λ r. ⌜ r ≡ As.numberOf (As.toldAt q h (now (positions .entry)) (now (normals .entry)) (now (classes .entry)) p) ⌝ }
 {
     match q {
@@ -101,24 +91,11 @@ fn answer(
     if position.len() != 24 {
         return no_query(h, positions, normals, classes);
     }
-    query(
-        q,
-        h,
-        positions,
-        normals,
-        classes,
-        wire::vec_at(position, 0),
-    )
+    query(q, h, positions, normals, classes, wire::vec_at(position, 0))
 }
 
 // `ask` with its work arrays.
-fn ask_in(
-    q: Question,
-    s: &[u8],
-    position: &[u8],
-    positions: &mut [f64],
-    normals: &mut [f64],
-) -> u32
+fn ask_in(q: Question, s: &[u8], position: &[u8], positions: &mut [f64], normals: &mut [f64]) -> u32
     requires { ⌜ As.Arrays (now s) (length (now positions)) (length (now normals)) ⌝ }
     ensures { λ r. ⌜ r ≡ As.numberOf (As.toldBy q (F.headerAt (now (s .entry))) (F.positionsAt (now (s .entry))) (F.normalsAt (now (s .entry))) (F.classesAt (now (s .entry))) (now (position .entry))) ⌝ }
 {
@@ -147,34 +124,28 @@ pub fn ask(q: Question, s: &[u8], position: &[u8]) -> u32
     let size = 3 * frames::count_at(s);
     let mut positions = [0.0f64; 1536];
     let mut normals = [0.0f64; 1536];
-    ask_in(
-        q,
-        s,
-        position,
-        &mut positions[..size],
-        &mut normals[..size],
-    )
+    ask_in(q, s, position, &mut positions[..size], &mut normals[..size])
+}
+
+pub fn is_convex(s: &[u8]) -> u32
+    ensures { λ r. ⌜ r ≡ As.numberOf (As.convexTold (now (s .entry))) ⌝ }
+{
+    ask(Question::Convex, s, s)
+}
+
+pub fn is_simple(s: &[u8]) -> u32
+    ensures { λ r. ⌜ r ≡ As.numberOf (As.simpleTold (now (s .entry))) ⌝ }
+{
+    ask(Question::Simple, s, s)
 }
 
 // The place of a position in a loop whose header alone is bytes.
-pub fn place(
-    header: &[u8],
-    positions: &[f64],
-    normals: &[f64],
-    classes: &[u8],
-    p: Vec3,
-) -> u32
+pub fn place(header: &[u8], positions: &[f64], normals: &[f64], classes: &[u8], p: Vec3) -> u32
     ensures { λ r. ⌜ r ≡ As.numberOf (As.placeTold (now (header .entry)) (now (positions .entry)) (now (normals .entry)) (now (classes .entry)) p) ⌝ }
 {
     let f = frames::header_fault(header);
     if f != 0 {
         return refusal(f);
     }
-    placed(ask::contains_position(
-        frames::header_at(header),
-        positions,
-        normals,
-        classes,
-        p,
-    ))
+    placed(ask::contains_position(frames::header_at(header), positions, normals, classes, p))
 }

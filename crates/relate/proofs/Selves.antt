@@ -26,7 +26,8 @@ use Rattle.header.proofs.Sounds.{Sound, sound}
 use Rattle.edges.specs.Shapes.{agree, beside, agreeAt, allAgree, sameRings}
 use Rattle.ask.specs.Answers.{answer, judged}
 use Rattle.ask.specs.Questions.{pairFault, equivalentLoops}
-use Rattle.relate.specs.Relations.{clearedCap, byCaps, byStates, relateAnswer}
+use Rattle.ask.specs.Places.{clearedCap}
+use Rattle.relate.specs.Relations.{byCaps, byStates, relateAnswer}
 
 -- ---- a finite position equals itself
 number-itself : (s : Bool) → Bool·beq s s ≡ true

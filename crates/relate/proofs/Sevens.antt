@@ -23,7 +23,8 @@ use Rattle.header.specs.Loops.{countFits, threesOf, shapeFault, classFault, cla
 use Rattle.pairs.specs.Contacts.{contactOf}
 use Rattle.ask.specs.Answers.{Told, refused, answer, judged}
 use Rattle.ask.specs.Questions.{fullState, pairFault, equivalentLoops}
-use Rattle.relate.specs.Relations.{clearedCap, emptyState, liesIn, byContainment, isCrossed, isTouched, edgesIf, byEdges, equalIf, disjointIf, byCaps, fullIf, byStates, relateAnswer}
+use Rattle.ask.specs.Places.{clearedCap}
+use Rattle.relate.specs.Relations.{emptyState, liesIn, byContainment, isCrossed, isTouched, edgesIf, byEdges, equalIf, disjointIf, byCaps, fullIf, byStates, relateAnswer}
 
 -- ---- no loop is refused by a number above 6
 first-most : (a b : ℕ) {m : ℕ} → a ≤ m → b ≤ m → first a b ≤ m

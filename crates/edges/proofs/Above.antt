@@ -13,7 +13,6 @@ use lib.Ieee.Fits.{up-pos, down-pos, and-l, and-r}
 use lib.Ieee.Exact.{HasValue, round-exact}
 use lib.Ieee.Order.{le-of-values}
 use lib.Ieee.Positive.{num, den, den-pos, positive-of-value, own-value, values-of-le}
-use Rattle.root.specs.Root.{inUnits}
 use Rattle.root.proofs.Units.{shape}
 use Rattle.numbers.specs.F64 as F
 use Rattle.numbers.specs.Near.{abs, near}

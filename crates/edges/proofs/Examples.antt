@@ -1,12 +1,12 @@
 -- The definitions computed: a square round the pole, walked clockwise, and an hourglass of its corners. Assumes nothing.
-use Prim.Native.Nat.{ℕ, _+_, _%_}
+use Prim.Native.Nat.{_+_, _%_}
 use mathlib.Core.Path.{_≡_, refl}
 use mathlib.Core.Bool.{true, false}
 use mathlib.Core.List.{List, [], _∷_}
 use lib.Ieee.{Float, binary64, ofBits, add, sub, mul, div, neg, lt, le, eq}
 use Rattle.numbers.specs.F64 as F
 use Rattle.numbers.specs.Near.{abs}
-use Rattle.root.specs.Root.{rootOf, rootUnits, wholeRoot}
+use Rattle.root.specs.Root.{rootOf}
 use Rattle.laws.specs.Loop.{anyOf, turns, flat}
 use Rattle.vec3.specs.declared.Vec3.{Vec3}
 use Rattle.vec3.specs.Vec.{axis-x, axis-z, unitVec, axisFor, orthogonalTo, posAt, coords}

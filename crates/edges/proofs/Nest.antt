@@ -1,12 +1,11 @@
 -- Three corners: the source's nest of tests is the short form, for all floats. Assumes nothing.
 use Prim.Native.Nat.{ℕ, _*_}
-use mathlib.Core.Path.{_≡_, refl, sym, ap, ap₂, _∙_}
+use mathlib.Core.Path.{_≡_, refl, sym, ap₂, _∙_}
 use mathlib.Core.Bool.{Bool, true, false, not, _&&_, _||_, Bool·beq}
 use mathlib.Core.List.{List}
 use borrow.Author.Tests.{eqb-true, eqb-false, ne-eqb}
-use lib.IntN.{ℤ}
 use lib.Dec.{T, eqb}
-use lib.Ieee.{Float, nan, inf, fin, binary64, up, down, neg, eq, level, lt, fits}
+use lib.Ieee.{Float, nan, inf, fin, binary64, up, down, eq, level, lt, fits}
 use lib.Ieee.Fits.{neg-fits, add-fits}
 use Rattle.numbers.specs.Choice.{if_then_else_}
 use Rattle.numbers.specs.F64 as F

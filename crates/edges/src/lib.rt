@@ -1,7 +1,6 @@
 // The questions about one ring that read its edges, over lent lists of n corners: positions and normals in threes, and classes.
 // Total on every float; `requires` for indexes and lengths alone.
 ghost use mathlib.Core.Path.{_≡_};
-ghost use mathlib.Core.Bool.{Bool};
 ghost use Prim.Native.Nat.{_+_, _-_, _*_, _%_, _≤_, _<_};
 ghost use lib.ListN.{length};
 ghost use Rattle.edges.specs.Edges as E;

@@ -2,14 +2,14 @@
 -- Assumes nothing.
 use Prim.Native.Nat.{ℕ, suc, _+_, _-_, _≤_, _<_}
 use mathlib.Core.Bool.{Bool, true, false, _||_}
-use mathlib.Core.Path.{_≡_, refl, sym, ap, _∙_}
+use mathlib.Core.Path.{_≡_, refl, sym, _∙_}
 use native.Mathlib.Nat.{sub-zero}
 use native.Mathlib.Numerals.{add-one}
 use native.Mathlib.Omega.{arith}
 use Rattle.laws.specs.Loop.{anyOf}
 use Rattle.laws.proofs.Loops.{left, none}
 use Rattle.pairs.specs.declared.Contact.{Contact}
-use Rattle.pairs.specs.declared.Contact.the-variants.{Apart, Touched, Crossed}
+use Rattle.pairs.specs.declared.Contact.the-variants.{Crossed}
 use Rattle.pairs.specs.Contacts.{graded, isCrossed, isTouched}
 
 pub record Grade (x t : ℕ → Bool) (n i : ℕ) (touched : Bool) (z : Contact) : Type 0 where

@@ -1,7 +1,7 @@
 -- How two rings stand does not depend on the order in which their edges are compared: by the first ring's edges, as the code goes, or by the second's. Assumes nothing.
 use Prim.Native.Nat.{ℕ, zero, suc}
 use mathlib.Core.Bool.{Bool, true, false, _||_}
-use mathlib.Core.Path.{_≡_, refl, sym, ap, ap₂, _∙_}
+use mathlib.Core.Path.{_≡_, refl, ap, ap₂, _∙_}
 use mathlib.Core.List.{List}
 use lib.Ieee.{Float}
 use Rattle.laws.specs.Loop.{anyOf}

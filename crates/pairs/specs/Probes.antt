@@ -1,12 +1,11 @@
 -- A point of a ring, the probe, that is on no edge of another, the reference: a corner, or where every corner is on one the midpoint of an edge. Definitions only.
 use Prim.Native.Nat.{ℕ, _+_, _%_}
-use mathlib.Core.Bool.{Bool, true, false, not}
+use mathlib.Core.Bool.{Bool, false, not}
 use mathlib.Core.List.{List}
 use lib.Dec.{ltb}
 use lib.Ieee.{Float}
 use Rattle.numbers.specs.Choice.{if_then_else_}
 use Rattle.laws.specs.Loop.{anyOf, firstAt}
-use Rattle.vec3.specs.declared.Vec3.{Vec3}
 use Rattle.vec3.specs.declared.Point.{Point}
 use Rattle.vec3.specs.declared.Point.the-variants.{Absent, At}
 use Rattle.vec3.specs.Vec.{posAt}

@@ -1,10 +1,9 @@
 // Two rings beside each other: how their edges stand, and a point of one that is on no edge of the other. Over lent lists of n and of m corners.
 // Total on every float; `requires` for indexes and lengths alone.
 ghost use mathlib.Core.Path.{_≡_};
-ghost use mathlib.Core.Bool.{Bool, false};
-ghost use Prim.Native.Nat.{_+_, _-_, _*_, _%_, _≤_, _<_};
+ghost use mathlib.Core.Bool.{false};
+ghost use Prim.Native.Nat.{_+_, _-_, _*_, _≤_, _<_};
 ghost use lib.ListN.{length};
-ghost use Rattle.laws.specs.Loop.{firstAt};
 ghost use Rattle.pairs.specs.Contacts as C;
 ghost use Rattle.pairs.specs.Probes as P;
 use minor_arc::MinorArc;

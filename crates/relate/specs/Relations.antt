@@ -5,7 +5,6 @@ use mathlib.Core.List.{List}
 use lib.ListN.{length}
 use lib.Ieee.{Float}
 use Rattle.vec3.specs.declared.Vec3.{Vec3}
-use Rattle.cap.specs.declared.Cap.{Cap}
 use Rattle.cap.specs.Caps.{meet}
 use Rattle.header.specs.declared.State.{State}
 use Rattle.header.specs.declared.State.the-variants.{Empty, Full, Ring}
@@ -17,8 +16,7 @@ use Rattle.pairs.specs.declared.Probe.the-variants.{Nowhere, Corner, Middle}
 use Rattle.pairs.specs.Contacts.{contactOf}
 use Rattle.pairs.specs.Probes.{probeOf, askedMidpoint}
 use Rattle.ask.specs.Answers.{Told, refused, answer, judged}
-use Rattle.ask.specs.Places as Places
-use Rattle.ask.specs.Places.{placeOf}
+use Rattle.ask.specs.Places.{clearedCap, placeOf}
 use Rattle.ask.specs.Questions.{fullState, pairFault, equivalentLoops}
 use Rattle.relate.specs.declared.Related.{Related}
 use Rattle.relate.specs.declared.Related.the-variants as Related
@@ -32,9 +30,6 @@ toldRelated Related.Intersecting = answer 2
 toldRelated Related.Containing = answer 3
 toldRelated Related.Within = answer 4
 toldRelated Related.Equal = answer 5
-
-abbrev pub clearedCap : Cap → Cap
-clearedCap c = Places.clearedCap c
 
 abbrev pub emptyState : State → Bool
 emptyState Empty = true

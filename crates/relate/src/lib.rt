@@ -7,12 +7,10 @@ ghost use Rattle.ask.specs.Answers as An;
 ghost use Rattle.ask.specs.Questions as Q;
 ghost use Rattle.relate.specs.Relations as Rel;
 use ask::Placed;
-use cap::Cap;
 use header::Header;
 use header::State;
 use pairs::Contact;
 use pairs::Probe;
-use vec3::Vec3;
 
 pub enum Related {
     Refused(u8),
@@ -22,16 +20,6 @@ pub enum Related {
     Containing,
     Within,
     Equal,
-}
-
-fn is_full(state: State) -> bool
-    ensures { λ r. ⌜ r ≡ Q.fullState state ⌝ }
-{
-    match state {
-        State::Empty => false,
-        State::Full => true,
-        State::Ring => false,
-    }
 }
 
 fn is_empty(state: State) -> bool
@@ -142,17 +130,6 @@ fn by_edges(
     by_containment(is_touched(k), within, containing)
 }
 
-fn cleared(c: Cap) -> Cap
-    ensures { λ r. ⌜ r ≡ Rel.clearedCap c ⌝ }
-{
-    let v = c.centre;
-    let radius = c.radius;
-    Cap {
-        centre: Vec3::new(v.x, v.y, v.z),
-        radius,
-    }
-}
-
 // The caps first, then equivalence, then the edges: each cheaper than the next.
 fn by_caps(
     h: Header,
@@ -170,7 +147,7 @@ fn by_caps(
 {
     let one = h.cap;
     let other = o.cap;
-    if !cleared(one).intersects(cleared(other)) {
+    if !ask::cleared_cap(one).intersects(ask::cleared_cap(other)) {
         return Related::Disjoint;
     }
     if ask::equivalent(h, positions, classes, o, others, codes) {
@@ -196,8 +173,8 @@ fn by_states(
 {
     let one = h.state;
     let other = o.state;
-    if is_full(one) {
-        if is_full(other) {
+    if ask::is_full(one) {
+        if ask::is_full(other) {
             return Related::Equal;
         }
         return Related::Containing;

@@ -57,12 +57,6 @@ pub fn triangulate(h: Header, positions: &[f64], classes: &[u8], triangles: &mut
     }
 }
 
-fn tell(yes: bool) -> Answered
-    ensures { λ r. ⌜ An.toldAnswered r ≡ An.boolTold yes ⌝ }
-{
-    if yes { Answered::Yes } else { Answered::No }
-}
-
 // Whether a list of triples cuts a ring.
 pub fn accepts(h: Header, positions: &[f64], classes: &[u8], triangles: &[u16]) -> Answered
     ensures { λ r. ⌜ An.toldAnswered r ≡ Tri.acceptsAnswer h (now (positions .entry)) (now (classes .entry)) (now (triangles .entry)) ⌝ }
@@ -71,5 +65,5 @@ pub fn accepts(h: Header, positions: &[f64], classes: &[u8], triangles: &[u16]) 
     if f != 0 {
         return Answered::Refused(f);
     }
-    tell(checker::check_list(positions, classes, triangles))
+    ask::tell(checker::check_list(positions, classes, triangles))
 }

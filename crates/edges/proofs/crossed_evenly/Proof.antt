@@ -1,7 +1,7 @@
 use native.Mathlib.Omega.{arith}
 use borrow.Author.Needs.{needs}
 use Prim.Native.Nat.{_-_}
-use mathlib.Core.Path.{refl, ap}
+use mathlib.Core.Path.{ap}
 use Rattle.edges.specs.declared.Crossings.{Crossings}
 use Rattle.laws.specs.Loop.{turns}
 use Rattle.laws.proofs.Loops.{Turn, turn, turn-on, turn-end}

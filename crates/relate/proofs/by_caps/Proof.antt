@@ -9,11 +9,11 @@ by-caps-spec =
     tie.close
     (tie.spec
     (λ c κs. search needs) (λ c κs. search needs) (λ c κs. search needs)
-    (λ c. let h = simp (c .before .intersects .ensures, c .before .before .cleared2 .ensures, c .before .before .before .cleared .ensures) at (c .if1 .taken) in
+    (λ c. let h = simp (c .before .intersects .ensures, c .before .before .cleared-cap2 .ensures, c .before .before .before .cleared-cap .ensures) at (c .if1 .taken) in
     simp h)
     (λ c κs. search needs)
-    (λ c. let h = simp (c .before .before .before .intersects .ensures, c .before .before .before .before .cleared2 .ensures, c .before .before .before .before .before .cleared .ensures) at (c .before .before .if1 .left) in
+    (λ c. let h = simp (c .before .before .before .intersects .ensures, c .before .before .before .before .cleared-cap2 .ensures, c .before .before .before .before .before .cleared-cap .ensures) at (c .before .before .if1 .left) in
     simp (h, ← c .before .equivalent .ensures, c .if2 .taken))
     (λ c κs. search needs)
-    (λ c. let h = simp (c .before .before .before .before .intersects .ensures, c .before .before .before .before .before .cleared2 .ensures, c .before .before .before .before .before .before .cleared .ensures) at (c .before .before .before .if1 .left) in
+    (λ c. let h = simp (c .before .before .before .before .intersects .ensures, c .before .before .before .before .before .cleared-cap2 .ensures, c .before .before .before .before .before .before .cleared-cap .ensures) at (c .before .before .before .if1 .left) in
     simp (h, ← c .before .before .equivalent .ensures, c .before .if2 .left) (c .by-edges .ensures)))

@@ -31,6 +31,18 @@ fn clear(v: Vec3) -> Vec3
     Vec3::new(v.x, v.y, v.z)
 }
 
+// A cap as it is read.
+pub fn cleared_cap(c: Cap) -> Cap
+    ensures { λ r. ⌜ r ≡ P.clearedCap c ⌝ }
+{
+    let centre = c.centre;
+    let radius = c.radius;
+    Cap {
+        centre: clear(centre),
+        radius,
+    }
+}
+
 fn tell_place(inside: bool) -> Placed
     ensures { λ r. ⌜ An.toldPlaced r ≡ An.answer (P.insideCode inside) ⌝ }
 {
@@ -41,7 +53,7 @@ fn tell_place(inside: bool) -> Placed
     }
 }
 
-fn tell(yes: bool) -> Answered
+pub fn tell(yes: bool) -> Answered
     ensures { λ r. ⌜ An.toldAnswered r ≡ An.boolTold yes ⌝ }
 {
     if yes { Answered::Yes } else { Answered::No }
@@ -71,13 +83,16 @@ fn inside_with(h: Header, a: Vec3, b: Vec3, positions: &[f64], normals: &[f64], 
     requires { ⌜ (h .count ≤ 512) × (3 * h .count ≤ length (now positions)) × (3 * h .count ≤ length (now normals)) ⌝ }
     ensures { λ r. ⌜ r ≡ P.insideWith h a b (now (positions .entry)) (now (normals .entry)) p ⌝ }
 {
-    let handed = h.cap;
-    let radius = handed.radius;
-    let cap = Cap {
-        centre: clear(handed.centre),
-        radius,
-    };
-    edges::inside_by(cap, clear(a), clear(b), positions, normals, h.count, p)
+    let cap = h.cap;
+    edges::inside_by(
+        cleared_cap(cap),
+        clear(a),
+        clear(b),
+        positions,
+        normals,
+        h.count,
+        p,
+    )
 }
 
 // The place of a position against a loop that was judged.
@@ -197,7 +212,7 @@ pub fn pair_fault(
     )
 }
 
-fn is_full(state: State) -> bool
+pub fn is_full(state: State) -> bool
     ensures { λ r. ⌜ r ≡ Q.fullState state ⌝ }
 {
     match state {

@@ -9,6 +9,7 @@ use lib.Dec.{leb}
 use lib.Ieee.{Float}
 use borrow.Author.Tests.{eqb-true, ltb-false, le-leb}
 use Rattle.laws.proofs.Firsts.{first-zero, test-none, test-passed}
+use Rattle.judge.specs.Judge.{positionsFault}
 use Rattle.ring.specs.Ring.{opened}
 use Rattle.ring.proofs.Openings.{opened-le}
 use Rattle.build.specs.Build.{listFault, roomFault, openedCount, refusal}
@@ -16,6 +17,7 @@ use Rattle.build.specs.Build.{listFault, roomFault, openedCount, refusal
 pub record Listed (l : List Float) : Type 0 where
   pub threes : length l % 3 ≡ 0
   pub few : length l / 3 ≤ 512
+  pub places : positionsFault l (length l / 3) ≡ 0
   pub small : openedCount l ≤ 512
   pub within : 3 * openedCount l ≤ length l
 
@@ -24,9 +26,10 @@ unfolding listFault
 list-fine l e =
     let a = first-zero _ _ e in
     let t : length l % 3 ≡ 0 = eqb-true _ _ (test-passed _ _ (a .0)) in
-    let f : length l / 3 ≤ 512 = ltb-false _ _ (test-none _ _ (first-zero _ _ (a .1) .0)) in
+    let b = first-zero _ _ (a .1) in
+    let f : length l / 3 ≤ 512 = ltb-false _ _ (test-none _ _ (b .0)) in
     let o : openedCount l ≤ length l / 3 = opened-le l (length l / 3) in
-    record { threes = t; few = f; small = omega arith; within = omega arith }
+    record { threes = t; few = f; places = b .1; small = omega arith; within = omega arith }
 
 or-false : (a b : Bool) → a || b ≡ false → (a ≡ false) × (b ≡ false)
 or-false true b e = (e, cc)

@@ -1,21 +1,21 @@
 -- The checker accepts exactly the lists that cut the ring at eligible ears. Assumes nothing.
-use Prim.Native.Nat.{ℕ, zero, suc, _+_, _≤_, _<_}
-use mathlib.Core.Path.{_≡_, refl, sym, ap, _∙_, subst}
-use mathlib.Core.Bool.{Bool, true, false, _&&_, true≢false}
-use mathlib.Core.List.{List, [], _∷_, _++_}
+use Prim.Native.Nat.{ℕ, zero, suc, _+_, _<_}
+use mathlib.Core.Path.{_≡_, refl, sym, _∙_, subst}
+use mathlib.Core.Bool.{Bool, true, false, true≢false}
+use mathlib.Core.List.{List, [], _∷_}
 use native.Mathlib.Omega.{arith}
 use lib.Ieee.{Float}
 use lib.ListN.{length, getD}
 use lib.Dec.{eqb}
 use borrow.Author.Tests.{eqb-true, ltb-true, lt-ltb, eq-eqb, ne-eqb}
-use Rattle.rings.specs.Ring.{prev, next, earOf}
+use Rattle.rings.specs.Ring.{prev, next}
 use Rattle.rings.proofs.Places.{nth, Increasing, apart-at, increasing-without}
-use Rattle.ears.specs.Ears.{ear, Remaining, cutAt}
+use Rattle.ears.specs.Ears.{Remaining, cutAt}
 use Rattle.cutting.specs.Accepted.{CutBy, last, cut, Eligible}
 use Rattle.cutting.proofs.Firsts.{first-has, is-first}
 use Rattle.cutting.proofs.Relations.{length-cut}
-use Rattle.checker.specs.Accepted.{isNumber, placeOf, between, fitsAt, sameNumbers, accepts}
-use Rattle.checker.proofs.Followings.{both, accepts-on, accepts-off, accepts-end, fits-place}
+use Rattle.checker.specs.Accepted.{isNumber, placeOf, fitsAt, sameNumbers, accepts}
+use Rattle.checker.proofs.Followings.{both, accepts-on, accepts-off, accepts-end}
 
 same-is : (l m : List ℕ) → sameNumbers l m ≡ true → l ≡ m
 unfolding sameNumbers
@@ -69,7 +69,8 @@ sound ps (suc k) s (a ∷ []) n e = absurd (true≢false (sym e))
 sound ps (suc k) s (a ∷ b ∷ []) n e = absurd (true≢false (sym e))
 sound ps (suc k) s (a ∷ b ∷ c ∷ rest) n e = go (fitsAt ps s (placeOf (s .ids) b) a c) refl (λ p q. sound ps k (cutAt ps s (placeOf (s .ids) b)) rest p q)
   where
-    go : (f : Bool) → fitsAt ps s (placeOf (s .ids) b) a c ≡ f → (length (cutAt ps s (placeOf (s .ids) b) .ids) ≡ k + 3 → accepts ps k (cutAt ps s (placeOf (s .ids) b)) rest ≡ true → CutBy ps (Eligible ps) (cutAt ps s (placeOf (s .ids) b)) rest) → CutBy ps (Eligible ps) s (a ∷ b ∷ c ∷ rest)
+    go : (f : Bool) → fitsAt ps s (placeOf (s .ids) b) a c ≡ f
+        → (length (cutAt ps s (placeOf (s .ids) b) .ids) ≡ k + 3 → accepts ps k (cutAt ps s (placeOf (s .ids) b)) rest ≡ true → CutBy ps (Eligible ps) (cutAt ps s (placeOf (s .ids) b)) rest) → CutBy ps (Eligible ps) s (a ∷ b ∷ c ∷ rest)
     go false f on = absurd (true≢false (sym e ∙ accepts-off ps k s a b c rest refl f))
     go true f on =
         let t = fits ps s (placeOf (s .ids) b) a c f in
@@ -82,7 +83,8 @@ ids-cut : (ps : List Float) (s : Remaining) (i : ℕ) → Increasing (s .ids) �
 unfolding cutAt
 ids-cut ps s i inc h = increasing-without (s .ids) inc i h
 
-pub complete : {ps : List Float} {s : Remaining} {tris : List ℕ} → CutBy ps (Eligible ps) s tris → Increasing (s .ids) → (k : ℕ) → length (s .ids) ≡ k + 3 → accepts ps k s tris ≡ true
+pub complete : {ps : List Float} {s : Remaining} {tris : List ℕ} → CutBy ps (Eligible ps) s tris → Increasing (s .ids) → (k : ℕ)
+    → length (s .ids) ≡ k + 3 → accepts ps k s tris ≡ true
 complete {ps} {s} (last e) inc zero n = accepts-end ps s (s .ids) ∙ is-same (s .ids)
 complete {ps} {s} (last e) inc (suc k) n = absurd (omega arith)
 complete {ps} {s} (cut i h p m c) inc zero n = absurd (omega arith)

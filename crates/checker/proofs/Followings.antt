@@ -2,18 +2,17 @@
 use Prim.Native.Nat.{ℕ, suc, _+_, _-_, _*_, _≤_, _<_}
 use mathlib.Core.Path.{_≡_, refl, sym, ap, _∙_}
 use mathlib.Core.Bool.{Bool, true, false, not, _&&_, true≢false}
-use mathlib.Core.List.{List, [], _∷_, _++_}
+use mathlib.Core.List.{List, _∷_, _++_}
 use native.Mathlib.Omega.{arith}
 use lib.Ieee.{Float}
 use lib.ListN.{length, take, drop, getD}
 use lib.Seq.{take-length}
 use borrow.Author.Tests.{ltb-true, not-true, not-false}
-use Rattle.laws.specs.Loop.{firstAt}
 use Rattle.laws.proofs.Loops.{firstAt-le}
 use Rattle.ears.specs.Ears.{Lent, Remaining, cutAt, cutIn}
 use Rattle.cutting.specs.Cutting.{wholeRing}
 use Rattle.cutting.proofs.Lefts.{left, Held, hold, cut-left, cut-held}
-use Rattle.checker.specs.Accepted.{isNumber, placeOf, between, fitsAt, sameNumbers, accepts, acceptsFrom}
+use Rattle.checker.specs.Accepted.{isNumber, placeOf, fitsAt, sameNumbers, accepts, acceptsFrom}
 use Rattle.checker.proofs.Lists.{triple}
 
 pub both : (p q : Bool) → p && q ≡ true → (p ≡ true) × (q ≡ true)
@@ -45,7 +44,8 @@ pub record Following (ps : List Float) (ids₀ classes₀ tris ids classes : Lis
   pub size : length tris ≡ 3 * (length ids₀ - 2)
   pub rest : acceptsFrom ps (record { ids = ids₀; classes = classes₀ }) tris ≡ accepts ps (m - 3) (left ids classes m) (drop (3 * t) tris)
 
-pub begin : {ps : List Float} {ids classes tris : List ℕ} → Lent ps ids classes → 3 ≤ length ids → length tris ≡ 3 * (length ids - 2) → Following ps ids classes tris ids classes (length ids) 0
+pub begin : {ps : List Float} {ids classes tris : List ℕ} → Lent ps ids classes → 3 ≤ length ids → length tris ≡ 3 * (length ids - 2)
+    → Following ps ids classes tris ids classes (length ids) 0
 begin l h e = record { held = hold l h; count = omega arith; size = e; rest = rw take-length }
 
 module _ {ps : List Float} {ids₀ classes₀ tris ids classes : List ℕ} {m t : ℕ} (g : Following ps ids₀ classes₀ tris ids classes m t) where
@@ -92,5 +92,6 @@ module _ {ps : List Float} {ids₀ classes₀ tris ids classes : List ℕ} {m t 
       u ∙ sym (g .rest ∙ rw (none) (accepts-end ps (left ids classes m) (drop (3 * t) tris)))
 
 -- from the whole ring on
-pub of-whole : (ps : List Float) (classes tris : List ℕ) {s : Remaining} {r : Bool} → s ≡ wholeRing classes → r ≡ acceptsFrom ps s tris → r ≡ acceptsFrom ps (wholeRing classes) tris
+pub of-whole : (ps : List Float) (classes tris : List ℕ) {s : Remaining} {r : Bool} → s ≡ wholeRing classes → r ≡ acceptsFrom ps s tris
+    → r ≡ acceptsFrom ps (wholeRing classes) tris
 of-whole ps classes tris e q = q ∙ ap (λ (s : Remaining). acceptsFrom ps s tris) e

@@ -1,6 +1,6 @@
 -- A flat list of triples from its triple numbered t on, and two lists of three compared. Assumes nothing.
 use Prim.Native.Nat.{ℕ, suc, _+_, _*_, _≤_, _<_}
-use mathlib.Core.Path.{_≡_, refl, sym, ap, _∙_}
+use mathlib.Core.Path.{_≡_, refl, sym}
 use mathlib.Core.Bool.{Bool, true, false, _&&_}
 use mathlib.Core.List.{List, [], _∷_}
 use native.Mathlib.Omega.{arith}
@@ -32,7 +32,8 @@ same-three (a ∷ b ∷ c ∷ []) x y z e = grouped (eqb a x) (eqb b y) (eqb c z
 same-three (a ∷ b ∷ c ∷ d ∷ l) x y z e = absurd (omega arith)
 
 -- the last triple
-pub same-last : (ids l : List ℕ) (t : ℕ) → length ids ≡ 3 → length l ≡ 3 * (t + 1) → (eqb (getD ids 0 0) (getD l (3 * t) 0) && eqb (getD ids 1 0) (getD l (3 * t + 1) 0)) && eqb (getD ids 2 0) (getD l (3 * t + 2) 0) ≡ sameNumbers ids (drop (3 * t) l)
+pub same-last : (ids l : List ℕ) (t : ℕ) → length ids ≡ 3 → length l ≡ 3 * (t + 1)
+    → (eqb (getD ids 0 0) (getD l (3 * t) 0) && eqb (getD ids 1 0) (getD l (3 * t + 1) 0)) && eqb (getD ids 2 0) (getD l (3 * t + 2) 0) ≡ sameNumbers ids (drop (3 * t) l)
 same-last ids l t e h =
     let k : length l ≤ 3 * (t + 1) = omega arith in
     rw (triple l t (omega arith), drop-of-length-le l k) (sym (same-three ids _ _ _ e))

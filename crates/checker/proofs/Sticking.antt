@@ -24,7 +24,8 @@ module _ (ps : List Float) where
   meets zero s n e = absurd (true≢false (sym e ∙ ap (λ (c : Cutting). c .stuck) (cutting-end ps s)))
   meets (suc k) s n e = go (decLt (lowestOf ps s) (length (s .ids))) (λ p q. meets k (cutAt ps s (lowestOf ps s)) p q)
     where
-      go : Dec (lowestOf ps s < length (s .ids)) → (length (cutAt ps s (lowestOf ps s) .ids) ≡ k + 3 → cutting ps k (cutAt ps s (lowestOf ps s)) .stuck ≡ true → MeetsNoEar ps (cutAt ps s (lowestOf ps s))) → MeetsNoEar ps s
+      go : Dec (lowestOf ps s < length (s .ids))
+          → (length (cutAt ps s (lowestOf ps s) .ids) ≡ k + 3 → cutting ps k (cutAt ps s (lowestOf ps s)) .stuck ≡ true → MeetsNoEar ps (cutAt ps s (lowestOf ps s))) → MeetsNoEar ps s
       go (yes p) on =
           let l = length-cut ps s (lowestOf ps s) p in
           further s (lowestOf ps s) (omega arith) p (is-lowest ps s p) (on (omega arith) (sym (ap (λ (c : Cutting). c .stuck) (cutting-on ps k s refl p)) ∙ e))
@@ -46,7 +47,8 @@ module _ (ps : List Float) where
       go (yes p) = absurd (true≢false (sym (first-has (ear ps (s .ids) (s .classes)) (length (s .ids)) 0 (omega arith)) ∙ f (lowestOf ps s) p))
       go (no p) = omega arith
 
-  pub sticks : {s u : Remaining} → Reaches ps s u → 3 < length (u .ids) → ((i : ℕ) → i < length (u .ids) → ear ps (u .ids) (u .classes) i ≡ false) → (k : ℕ) → length (s .ids) ≡ k + 3 → cutting ps k s .stuck ≡ true
+  pub sticks : {s u : Remaining} → Reaches ps s u → 3 < length (u .ids) → ((i : ℕ) → i < length (u .ids) → ear ps (u .ids) (u .classes) i ≡ false)
+      → (k : ℕ) → length (s .ids) ≡ k + 3 → cutting ps k s .stuck ≡ true
   sticks here h f zero n = absurd (omega arith)
   sticks {s} here h f (suc k) n = ap (λ (c : Cutting). c .stuck) (cutting-stuck ps k s refl (no-place s f))
   sticks (cut i a b l r) h f zero n = absurd (omega arith)

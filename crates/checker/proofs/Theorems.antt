@@ -1,6 +1,6 @@
 -- The theorem of demand 3, of every ring of three corners or more. Assumes nothing.
 use Prim.Native.Nat.{ℕ, _+_, _-_, _*_, _≤_, _<_}
-use mathlib.Core.Path.{_≡_, refl, sym, ap, _∙_}
+use mathlib.Core.Path.{_≡_, _∙_}
 use mathlib.Core.Bool.{true, false}
 use mathlib.Core.List.{List}
 use native.Mathlib.Omega.{arith}
@@ -15,8 +15,8 @@ use Rattle.cutting.specs.Cutting.{wholeRing, cuttingOf}
 use Rattle.cutting.specs.Accepted.{CutBy, Eligible, Lowest}
 use Rattle.cutting.proofs.Relations.{cuts, weaken, at-lowest}
 use Rattle.cutting.proofs.Wholes.{size, getD-numbers}
-use Rattle.checker.specs.Accepted.{acceptsFrom, accepted}
-use Rattle.checker.specs.Demand.{MeetsNoEar, Demand}
+use Rattle.checker.specs.Accepted.{accepted}
+use Rattle.checker.specs.Demand.{Demand}
 use Rattle.checker.proofs.Followings.{both}
 use Rattle.checker.proofs.Accepting.{sound, complete}
 use Rattle.checker.proofs.Sticking.{meets, sticks}

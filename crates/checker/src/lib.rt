@@ -2,7 +2,7 @@
 ghost use mathlib.Core.Path.{_≡_};
 ghost use Prim.Native.Nat.{_+_, _-_, _*_, _≤_, _<_};
 ghost use lib.ListN.{length, getD, drop};
-ghost use Rattle.ears.specs.Ears.{Lent, Remaining};
+ghost use Rattle.ears.specs.Ears.{Lent};
 ghost use Rattle.cutting.specs.Cutting.{Ring, Work, wholeRing};
 ghost use Rattle.checker.specs.Accepted.{placeOf, between, fitsAt, sameNumbers, acceptsFrom, accepted};
 

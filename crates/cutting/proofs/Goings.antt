@@ -1,20 +1,21 @@
 -- A ring under the knife: what holds after t cuts, where m places are left. Assumes nothing.
-use Prim.Native.Nat.{ℕ, zero, suc, _+_, _-_, _*_, _≤_, _<_}
-use mathlib.Core.Path.{_≡_, refl, sym, ap, _∙_}
+use Prim.Native.Nat.{ℕ, suc, _+_, _-_, _*_, _≤_, _<_}
+use mathlib.Core.Path.{_≡_, refl, ap, _∙_}
 use mathlib.Core.Bool.{true, false}
-use mathlib.Core.List.{List, [], _∷_, _++_, append-assoc, append-nil}
+use mathlib.Core.List.{List, [], _++_, append-assoc, append-nil}
 use native.Mathlib.Omega.{arith}
 use lib.Ieee.{Float}
 use lib.ListN.{length, take, drop, length-append, length-drop}
 use lib.Seq.{sets, sets-eq, length-sets, take-at, take-length, drop-at, drop-drop}
 use Rattle.rings.specs.Ring.{earOf}
-use Rattle.ears.specs.Ears.{Lent, lowest, Remaining, cutAt, cutIn}
-use Rattle.cutting.specs.Cutting.{Cutting, ahead, cutting, cuttingFrom, Out, laid}
+use Rattle.ears.specs.Ears.{Lent, lowest, cutAt, cutIn}
+use Rattle.cutting.specs.Cutting.{Cutting, ahead, cutting, cuttingFrom, laid}
 use Rattle.cutting.proofs.Turns.{cutting-on, cutting-stuck, cutting-end, whole-three}
 use Rattle.cutting.proofs.Lefts.{left, Held, hold, found, cut-left, cut-held}
 
 -- the triples after one more
-lay : (t : ℕ) (done rest v : List ℕ) → length done ≡ 3 * t → length v ≡ 3 → 3 * (t + 1) ≤ length rest → sets (done ++ drop (3 * t) rest) (3 * t) v ≡ (done ++ v) ++ drop (3 * (t + 1)) rest
+lay : (t : ℕ) (done rest v : List ℕ) → length done ≡ 3 * t → length v ≡ 3 → 3 * (t + 1) ≤ length rest
+    → sets (done ++ drop (3 * t) rest) (3 * t) v ≡ (done ++ v) ++ drop (3 * (t + 1)) rest
 lay t done rest v d e h =
     let l = done ++ drop (3 * t) rest in
     let n : 3 * (t + 1) ≡ 3 * t + 3 = omega arith in
@@ -34,7 +35,8 @@ pub record Going (ps : List Float) (ids₀ classes₀ tris₀ ids classes tris :
   pub tris-size : length tris ≡ length tris₀
   pub rest : cuttingFrom ps (record { ids = ids₀; classes = classes₀ }) ≡ ahead done (cutting ps (m - 3) (left ids classes m))
 
-pub begin : {ps : List Float} {ids classes tris : List ℕ} → Lent ps ids classes → 3 ≤ length ids → 3 * (length ids - 2) ≤ length tris → Going ps ids classes tris ids classes tris (length ids) 0
+pub begin : {ps : List Float} {ids classes tris : List ℕ} → Lent ps ids classes → 3 ≤ length ids → 3 * (length ids - 2) ≤ length tris
+    → Going ps ids classes tris ids classes tris (length ids) 0
 begin {ids = ids} l h r = record {
   held = hold l h;
   count = omega arith;
@@ -77,7 +79,8 @@ module _ {ps : List Float} {ids₀ classes₀ tris₀ ids classes tris : List �
           }
 
   -- three are left, and are the last triangle
-  pub finish : {tris′ : List ℕ} → m ≤ 3 → tris′ ≡ sets tris (3 * t) (earOf (take m ids) 1) → record { answer = true; out = tris′ } ≡ laid (cuttingFrom ps (record { ids = ids₀; classes = classes₀ })) tris₀
+  pub finish : {tris′ : List ℕ} → m ≤ 3 → tris′ ≡ sets tris (3 * t) (earOf (take m ids) 1)
+      → record { answer = true; out = tris′ } ≡ laid (cuttingFrom ps (record { ids = ids₀; classes = classes₀ })) tris₀
   finish {tris′} h u =
       let three : m ≡ 3 = omega (arith, g .held .least) in
       let none : m - 3 ≡ 0 = omega arith in

@@ -1,18 +1,17 @@
 -- What is cut, as a relation. Assumes nothing.
-use Prim.Native.Nat.{ℕ, zero, suc, _+_, _<_, _≤_}
+use Prim.Native.Nat.{ℕ, zero, suc, _+_, _<_}
 use mathlib.Core.Path.{_≡_, refl, sym, ap, _∙_}
 use mathlib.Core.Bool.{true, false, true≢false}
-use mathlib.Core.List.{List, _++_}
+use mathlib.Core.List.{List}
 use native.Mathlib.Decide.{decLt}
 use native.Mathlib.Omega.{arith}
 use lib.Ieee.{Float}
 use lib.ListN.{length}
-use Rattle.rings.specs.Ring.{without, earOf}
 use Rattle.rings.specs.Cuts as C
 use Rattle.rings.proofs.Withouts.{length-without}
 use Rattle.ears.specs.Ears.{ear, Remaining, cutAt}
-use Rattle.cutting.specs.Cutting.{Cutting, ahead, lowestOf, cutting}
-use Rattle.cutting.specs.Accepted.{CutBy, last, cut, Eligible, Lowest}
+use Rattle.cutting.specs.Cutting.{Cutting, lowestOf, cutting}
+use Rattle.cutting.specs.Accepted.{CutBy, last, cut, Lowest}
 use Rattle.cutting.proofs.Firsts.{first-has, none-before}
 use Rattle.cutting.proofs.Turns.{cutting-on, cutting-stuck, cutting-end}
 
@@ -23,7 +22,8 @@ module _ {ps : List Float} {May : Remaining → ℕ → Type 0} where
   cuts (last e) = C.last e
   cuts (cut i h k m c) = C.cut i h k (cuts c)
 
-  pub weaken : {May′ : Remaining → ℕ → Type 0} → ((s : Remaining) (i : ℕ) → May s i → May′ s i) → {s : Remaining} {tris : List ℕ} → CutBy ps May s tris → CutBy ps May′ s tris
+  pub weaken : {May′ : Remaining → ℕ → Type 0} → ((s : Remaining) (i : ℕ) → May s i → May′ s i) → {s : Remaining} {tris : List ℕ}
+      → CutBy ps May s tris → CutBy ps May′ s tris
   weaken f (last e) = last e
   weaken f (cut i h k m c) = cut i h k (f _ i m) (weaken f c)
 
@@ -42,7 +42,8 @@ pub at-lowest : (ps : List Float) (k : ℕ) (s : Remaining) → length (s .ids) 
 at-lowest ps zero s e h = rw (cutting-end ps s) (last {s = s} (omega arith))
 at-lowest ps (suc k) s e h = go (decLt (lowestOf ps s) (length (s .ids))) (λ a b. at-lowest ps k (cutAt ps s (lowestOf ps s)) a b)
   where
-    go : Dec (lowestOf ps s < length (s .ids)) → (length (cutAt ps s (lowestOf ps s) .ids) ≡ k + 3 → cutting ps k (cutAt ps s (lowestOf ps s)) .stuck ≡ false → CutBy ps (Lowest ps) (cutAt ps s (lowestOf ps s)) (cutting ps k (cutAt ps s (lowestOf ps s)) .triangles)) → CutBy ps (Lowest ps) s (cutting ps (suc k) s .triangles)
+    go : Dec (lowestOf ps s < length (s .ids))
+        → (length (cutAt ps s (lowestOf ps s) .ids) ≡ k + 3 → cutting ps k (cutAt ps s (lowestOf ps s)) .stuck ≡ false → CutBy ps (Lowest ps) (cutAt ps s (lowestOf ps s)) (cutting ps k (cutAt ps s (lowestOf ps s)) .triangles)) → CutBy ps (Lowest ps) s (cutting ps (suc k) s .triangles)
     go (yes p) on =
         let t = cutting-on ps k s refl p in
         let h′ : cutting ps k (cutAt ps s (lowestOf ps s)) .stuck ≡ false = sym (ap (λ (c : Cutting). c .stuck) t) ∙ h in

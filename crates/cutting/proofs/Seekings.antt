@@ -10,12 +10,11 @@ use lib.Seq.{take-length}
 use Rattle.rings.specs.Ring.{earOf}
 use Rattle.vec3.specs.declared.Point.{Point}
 use Rattle.vec3.specs.declared.Point.the-variants.{Absent, At}
-use Rattle.vec3.specs.Points.{triangleMean}
 use Rattle.ears.specs.Ears.{Lent, lowest, triangleAt, Remaining, cutAt, cutIn}
 use Rattle.cutting.specs.declared.Found.{Found}
 use Rattle.cutting.specs.declared.Found.the-variants as F
 use Rattle.cutting.specs.declared.Insides.{Insides}
-use Rattle.cutting.specs.Cutting.{Cutting, ahead, wholeRing, cutting}
+use Rattle.cutting.specs.Cutting.{wholeRing, cutting}
 use Rattle.cutting.specs.Insides.{withMean, isBoth, meanOf, withMeans, meansFrom, insidesFrom, insidesOf}
 use Rattle.cutting.proofs.Turns.{cutting-on, cutting-stuck, cutting-end, whole-three}
 use Rattle.cutting.proofs.Lefts.{left, Held, hold, found, cut-left, cut-held}
@@ -24,7 +23,8 @@ means-none : (ps : List Float) (f : Found) → withMeans ps f [] ≡ f
 unfolding withMeans
 means-none ps f = refl
 
-means-ear : (ps : List Float) (f : Found) (ids rest : List ℕ) (i : ℕ) → withMeans ps f (earOf ids i ++ rest) ≡ withMeans ps (withMean f (meanOf (triangleAt ps ids i))) rest
+means-ear : (ps : List Float) (f : Found) (ids rest : List ℕ) (i : ℕ)
+    → withMeans ps f (earOf ids i ++ rest) ≡ withMeans ps (withMean f (meanOf (triangleAt ps ids i))) rest
 unfolding withMeans
 means-ear ps f ids rest i = refl
 
@@ -89,5 +89,6 @@ module _ {ps : List Float} {ids₀ classes₀ ids classes : List ℕ} {m : ℕ} 
       sym (g .rest ∙ rw (none, cutting-end ps (left ids classes m)) last)
 
 -- from the whole ring on
-pub of-whole : (ps : List Float) (classes : List ℕ) {s : Remaining} {f : Found} {r : Insides} → s ≡ wholeRing classes → f ≡ meansFrom ps s → r ≡ insidesFrom f → r ≡ insidesOf ps classes
+pub of-whole : (ps : List Float) (classes : List ℕ) {s : Remaining} {f : Found} {r : Insides} → s ≡ wholeRing classes → f ≡ meansFrom ps s
+    → r ≡ insidesFrom f → r ≡ insidesOf ps classes
 of-whole ps classes {s} {f} e p q = q ∙ ap (λ (f : Found). insidesFrom f) p ∙ ap (λ (s : Remaining). insidesFrom (meansFrom ps s)) e

@@ -9,7 +9,7 @@ use lib.ListN.{length}
 use borrow.Author.Tests.{lt-ltb, le-ltb}
 use Rattle.rings.specs.Ring.{earOf}
 use Rattle.ears.specs.Ears.{Remaining, cutAt}
-use Rattle.cutting.specs.Cutting.{Cutting, ahead, lowestOf, cutting}
+use Rattle.cutting.specs.Cutting.{ahead, lowestOf, cutting}
 
 module _ (ps : List Float) (k : ℕ) (s : Remaining) {i : ℕ} (e : i ≡ lowestOf ps s) where
   pub cutting-on : i < length (s .ids) → cutting ps (suc k) s ≡ ahead (earOf (s .ids) i) (cutting ps k (cutAt ps s i))

@@ -1,8 +1,8 @@
 -- A whole ring: what cutting it begins with, and what it leaves in the output. Assumes nothing.
 use Prim.Native.Nat.{ℕ, zero, suc, _+_, _-_, _*_, _≤_, _<_}
 use mathlib.Core.Path.{_≡_, refl, sym, ap, _∙_}
-use mathlib.Core.Bool.{Bool, true, false, not}
-use mathlib.Core.List.{List, [], _∷_, _++_, append-nil}
+use mathlib.Core.Bool.{Bool, true, false}
+use mathlib.Core.List.{List, _++_, append-nil}
 use native.Mathlib.Omega.{arith}
 use lib.Ieee.{Float}
 use lib.ListN.{length, drop, getD, drop-of-length-le}
@@ -12,7 +12,7 @@ use Rattle.laws.proofs.Copies.{length-flat}
 use Rattle.rings.specs.Ring.{Below, oneNumber, numbers}
 use Rattle.rings.proofs.Theorem.{counted}
 use Rattle.ears.specs.Ears.{Lent, Remaining}
-use Rattle.cutting.specs.Cutting.{Ring, Work, wholeRing, Cutting, cuttingFrom, cuttingOf, Out, laid, outOf}
+use Rattle.cutting.specs.Cutting.{Ring, Work, wholeRing, cuttingFrom, cuttingOf, Out, laid, outOf}
 use Rattle.cutting.proofs.Relations.{cuts, at-lowest}
 
 pub getD-numbers : (k i j : ℕ) → j < k → getD (flat oneNumber k i) j 0 ≡ i + j
@@ -31,13 +31,15 @@ pub lent : {ps : List Float} {classes : List ℕ} → Ring ps classes → Lent p
 lent {classes = classes} r = record { below = below-numbers (length classes); whole = r .whole; most = r .most; few = rw size (r .most) }
 
 -- all of a ring is cut into n - 2 triangles
-pub all-cut : {ps : List Float} {classes : List ℕ} → Ring ps classes → cuttingOf ps classes .stuck ≡ false → length (cuttingOf ps classes .triangles) ≡ 3 * (length classes - 2)
+pub all-cut : {ps : List Float} {classes : List ℕ} → Ring ps classes → cuttingOf ps classes .stuck ≡ false
+    → length (cuttingOf ps classes .triangles) ≡ 3 * (length classes - 2)
 all-cut {ps} {classes} r h =
     let n = size (length classes) in
     counted (cuts (at-lowest ps (length (numbers (length classes)) - 3) (wholeRing classes) (omega (arith, r .least)) h)) ∙ rw n
 
 -- in work places
-pub started : {classes : List ℕ} (ids work : List ℕ) {ids′ work′ : List ℕ} → length ids ≡ length classes → length work ≡ length classes → ids′ ≡ numbers (length ids) → work′ ≡ classes ++ drop (length classes) work → record { ids = ids′; classes = work′ } ≡ wholeRing classes
+pub started : {classes : List ℕ} (ids work : List ℕ) {ids′ work′ : List ℕ} → length ids ≡ length classes → length work ≡ length classes
+    → ids′ ≡ numbers (length ids) → work′ ≡ classes ++ drop (length classes) work → record { ids = ids′; classes = work′ } ≡ wholeRing classes
 started {classes} ids work e w p q =
     let h : length work ≤ length classes = omega arith in
     rw (p, e, q, drop-of-length-le work h, append-nil)
@@ -54,7 +56,8 @@ module _ {ps : List Float} {classes ids work : List ℕ} (w : Work ps classes id
     unfolding outOf
     none-found f = rw (not-false (cuttingOf ps classes .stuck) (sym (ap (λ (o : Out). o .answer) done) ∙ f))
 
-    pub all-found : {out′ : List ℕ} → b ≡ true → length tris ≡ 3 * (length classes - 2) → out′ ≡ tris′ ++ drop (length tris′) out → record { answer = true; out = out′ } ≡ outOf ps classes out
+    pub all-found : {out′ : List ℕ} → b ≡ true → length tris ≡ 3 * (length classes - 2) → out′ ≡ tris′ ++ drop (length tris′) out
+        → record { answer = true; out = out′ } ≡ outOf ps classes out
     unfolding outOf
     all-found {out′} t s o =
         let free : cuttingOf ps classes .stuck ≡ false = not-true (cuttingOf ps classes .stuck) (sym (ap (λ (o : Out). o .answer) done) ∙ t) in

@@ -12,7 +12,8 @@ use Rattle.ears.specs.Ears.{ear, Remaining, cutAt}
 -- and the last is the three that are left, from their first
 pub data CutBy (ps : List Float) (May : Remaining → ℕ → Type 0) : Remaining → List ℕ → Type 0 where
   last : {s : Remaining} → length (s .ids) ≡ 3 → CutBy ps May s (s .ids)
-  cut : {s : Remaining} {rest : List ℕ} (i : ℕ) → 3 < length (s .ids) → i < length (s .ids) → May s i → CutBy ps May (cutAt ps s i) rest → CutBy ps May s (earOf (s .ids) i ++ rest)
+  cut : {s : Remaining} {rest : List ℕ} (i : ℕ) → 3 < length (s .ids) → i < length (s .ids) → May s i → CutBy ps May (cutAt ps s i) rest
+      → CutBy ps May s (earOf (s .ids) i ++ rest)
 
 -- place i is an eligible ear, and the lowest of them
 abbrev pub Eligible : List Float → Remaining → ℕ → Type 0

@@ -29,19 +29,22 @@ abbrev pub counted : Bool → Bool → Bool
 counted true even = even
 counted false even = not even
 
+abbrev pub tally : Bool → Vec3 → Vec3 → Crossings
+tally even first previous = record { even = even; first = first; previous = previous }
+
 abbrev pub start : Crossings
-start = record { even = true; first = origin; previous = origin }
+start = tally true origin origin
 
 -- document 01, "Crossings": "The first edge's point is remembered for the last edge only, and not as "previous" for the second"
 unfoldable pub metAt : ℕ → ℕ → Vec3 → Crossings → Crossings
 metAt n i p s =
-    if eqb i 0 then record { even = not (s .even); first = p; previous = s .previous }
-    else if eqb i (n - 1) then record { even = counted (nearBy (s .first) p || nearBy (s .previous) p) (s .even); first = s .first; previous = s .previous }
-    else record { even = counted (nearBy (s .previous) p) (s .even); first = s .first; previous = p }
+    if eqb i 0 then tally (not (s .even)) p (s .previous)
+    else if eqb i (n - 1) then tally (counted (nearBy (s .first) p || nearBy (s .previous) p) (s .even)) (s .first) (s .previous)
+    else tally (counted (nearBy (s .previous) p) (s .even)) (s .first) p
 
 -- where edge i is not met, the previous point is forgotten
 abbrev pub passed : ℕ → ℕ → Point → Crossings → Crossings
-passed n i Absent s = record { even = s .even; first = s .first; previous = origin }
+passed n i Absent s = tally (s .even) (s .first) origin
 passed n i (At p) s = metAt n i p s
 
 abbrev pub pass : MinorArc → List Float → List Float → ℕ → ℕ → Crossings → Crossings
@@ -68,7 +71,7 @@ within ns i p = lt epsilon (depth ns i p)
 
 -- three corners: no corner, and right of each edge
 unfoldable pub inTriangle : List Float → List Float → Vec3 → Bool
-inTriangle ps ns p = not (hasVertex ps 3 p) && (within ns 0 p && within ns 1 p && within ns 2 p)
+inTriangle ps ns p = not (hasVertex ps 3 p) && within ns 0 p && within ns 1 p && within ns 2 p
 
 -- the same as the source nests its tests, for the theorem `nest-is`
 unfoldable pub sides : Float → Float → Float → Bool

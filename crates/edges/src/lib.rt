@@ -1,7 +1,6 @@
 // The questions about one ring that read its edges, over lent lists of n corners: positions and normals in threes, and classes.
 // Total on every float; `requires` for indexes and lengths alone.
 ghost use mathlib.Core.Path.{_≡_};
-ghost use mathlib.Core.Bool.{Bool};
 ghost use Prim.Native.Nat.{_+_, _-_, _*_, _%_, _≤_, _<_};
 ghost use lib.ListN.{length};
 ghost use Rattle.edges.specs.Edges as E;
@@ -14,7 +13,7 @@ use vec3::Point;
 use vec3::Vec3;
 
 // The place k, counted round.
-fn wrap(k: usize, n: usize) -> usize
+pub fn wrap(k: usize, n: usize) -> usize
     requires { ⌜ 0 < n ⌝ }
     ensures { λ r. ⌜ (r ≡ k % n) × (r < n) ⌝ }
 {
@@ -65,6 +64,18 @@ pub struct Crossings {
     pub previous: Vec3,
 }
 
+impl Crossings {
+    fn new(even: bool, first: Vec3, previous: Vec3) -> Crossings
+        ensures { λ r. ⌜ r ≡ P.tally even first previous ⌝ }
+    {
+        Crossings {
+            even,
+            first,
+            previous,
+        }
+    }
+}
+
 // Whether two points are one: each component within 2^-52.
 fn near_by(a: Vec3, b: Vec3) -> bool
     ensures { λ r. ⌜ r ≡ P.nearBy a b ⌝ }
@@ -87,25 +98,13 @@ fn met(n: usize, i: usize, p: Vec3, s: Crossings) -> Crossings
     let first = s.first;
     let previous = s.previous;
     if i == 0 {
-        return Crossings {
-            even: !s.even,
-            first: p,
-            previous,
-        };
+        return Crossings::new(!s.even, p, previous);
     }
     let again = near_by(previous, p);
     if i == n - 1 {
-        return Crossings {
-            even: counted(near_by(first, p) | again, s.even),
-            first,
-            previous,
-        };
+        return Crossings::new(counted(near_by(first, p) | again, s.even), first, previous);
     }
-    Crossings {
-        even: counted(again, s.even),
-        first,
-        previous: p,
-    }
+    Crossings::new(counted(again, s.even), first, p)
 }
 
 // Edge i is met, or is not: then the previous point is forgotten.
@@ -114,14 +113,7 @@ fn passed(n: usize, i: usize, at: Point, s: Crossings) -> Crossings
     ensures { λ r. ⌜ r ≡ P.passed n i at s ⌝ }
 {
     match at {
-        Point::Absent => {
-            let first = s.first;
-            Crossings {
-                even: s.even,
-                first,
-                previous: Vec3::ZERO,
-            }
-        },
+        Point::Absent => Crossings::new(s.even, s.first, Vec3::ZERO),
         Point::At(p) => met(n, i, p, s),
     }
 }
@@ -131,11 +123,7 @@ pub fn crossed_evenly(arc: MinorArc, positions: &[f64], normals: &[f64], n: usiz
     requires { ⌜ (n ≤ 512) × (3 * n ≤ length (now positions)) × (3 * n ≤ length (now normals)) ⌝ }
     ensures { λ r. ⌜ r ≡ P.crossedEvenly arc (now (positions .entry)) (now (normals .entry)) n ⌝ }
 {
-    let mut s = Crossings {
-        even: true,
-        first: Vec3::ZERO,
-        previous: Vec3::ZERO,
-    };
+    let mut s = Crossings::new(true, Vec3::ZERO, Vec3::ZERO);
     for i in 0..n {
         s = passed(n, i, arc.intersection(edge(positions, normals, n, i)), s);
     }
@@ -184,10 +172,8 @@ pub fn in_triangle(positions: &[f64], normals: &[f64], p: Vec3) -> bool
     requires { ⌜ (9 ≤ length (now positions)) × (9 ≤ length (now normals)) ⌝ }
     ensures { λ r. ⌜ r ≡ P.inTriangle (now (positions .entry)) (now (normals .entry)) p ⌝ }
 {
-    if has_vertex(positions, 3, p) {
-        return false;
-    }
-    is_within(normals, 0, p) & is_within(normals, 1, p) & is_within(normals, 2, p)
+    let corner = has_vertex(positions, 3, p);
+    !corner & is_within(normals, 0, p) & is_within(normals, 1, p) & is_within(normals, 2, p)
 }
 
 // The side at corner i, by the corners before and after it.

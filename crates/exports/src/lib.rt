@@ -2,6 +2,7 @@
 mod arcs;
 mod floats;
 mod leaves;
+mod loops;
 
 ghost use mathlib.Core.Path.{_≡_};
 ghost use Rattle.exports.specs.Left.{refusalOf};

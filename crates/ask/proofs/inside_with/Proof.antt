@@ -7,4 +7,4 @@ inside-with-spec =
     tie.close
     (tie.spec
     (λ c κs. search needs) (λ c κs. search needs) (λ c κs. search needs) (λ c κs. search needs)
-    (λ c. simp (c .inside-by .ensures, c .before .clear3 .ensures, c .before .before .clear2 .ensures, c .before .before .before .clear .ensures)))
+    (λ c. simp (c .inside-by .ensures, c .before .clear2 .ensures, c .before .before .clear .ensures, c .before .before .before .cleared-cap .ensures)))

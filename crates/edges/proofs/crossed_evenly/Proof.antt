@@ -1,7 +1,7 @@
 use native.Mathlib.Omega.{arith}
 use borrow.Author.Needs.{needs}
 use Prim.Native.Nat.{_-_}
-use mathlib.Core.Path.{refl, ap}
+use mathlib.Core.Path.{ap}
 use Rattle.edges.specs.declared.Crossings.{Crossings}
 use Rattle.laws.specs.Loop.{turns}
 use Rattle.laws.proofs.Loops.{Turn, turn, turn-on, turn-end}
@@ -21,7 +21,8 @@ crossed-evenly-spec =
     tie.close
     (tie.spec
     Inv-loop μ-loop
-    (λ c. turn refl)
+    (λ c κs. search needs)
+    (λ c. turn (simp (c .new .ensures)))
     (λ c κs. search needs)
     (λ c κs. search needs)
     (λ c κs. search needs)

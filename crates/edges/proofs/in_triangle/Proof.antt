@@ -8,7 +8,5 @@ unfolding inTriangle
 in-triangle-spec =
     tie.close
     (tie.spec
-    (λ c κs. search needs)
-    (λ c. simp (← c .before .has-vertex .ensures, c .if1 .taken))
-    (λ c κs. search needs) (λ c κs. search needs) (λ c κs. search needs)
-    (λ c. let t = c .before .before .before in simp (← t .before .has-vertex .ensures, t .if1 .left, c .is-within3 .ensures, c .before .is-within2 .ensures, c .before .before .is-within .ensures)))
+    (λ c κs. search needs) (λ c κs. search needs) (λ c κs. search needs) (λ c κs. search needs)
+    (λ c. let t = c .before .before in simp (c .is-within3 .ensures, c .before .is-within2 .ensures, t .is-within .ensures, t .before .has-vertex .ensures)))

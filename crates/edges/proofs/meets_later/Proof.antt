@@ -1,7 +1,7 @@
 use native.Mathlib.Omega.{arith}
 use borrow.Author.Needs.{needs}
 use Prim.Native.Nat.{_-_}
-use Rattle.laws.proofs.Loops.{Any, any, any-on, any-hit, any-end}
+use Rattle.laws.proofs.Loops.{Any, any-on, any-hit, any-end}
 use Rattle.edges.specs.Shapes.{edgesMeet, meetsLater}
 use Rattle.edges.proofs.meets_later.Statement.{statement}
 use Rattle.edges.proofs.meets_later.Tie as tie

@@ -1,0 +1,78 @@
+-- Building over bytes. "`desk_build(list, out)`: count of the loop written to `out` (0 for empty and full, whose 88 bytes are written)"; refusal 5: "`out` of
+-- `desk_build` shorter than 88 + 49n (n the opened count, 0 below three; so below 88 for an empty loop too)". Definitions only.
+use Prim.Native.Nat.{ℕ, zero, suc, _+_, _-_, _*_, _/_, _%_, _≤_}
+use mathlib.Core.Path.{_≡_}
+use mathlib.Core.Bool.{Bool, true, false, cond}
+use mathlib.Core.List.{List, [], _++_}
+use lib.ListN.{length, take}
+use lib.Seq.{sets}
+use lib.Dec.{eqb, ltb}
+use lib.Ieee.{Float}
+use Rattle.numbers.specs.Choice.{if_then_else_}
+use Rattle.laws.specs.Loop.{first}
+use Rattle.header.specs.declared.Header.{Header}
+use Rattle.header.specs.Loops.{emptyHeader}
+use Rattle.build.specs.Build.{listFault, openedCount, Made, made}
+use Rattle.frames.specs.Left.{Left, left, refusalOf}
+use Rattle.frames.specs.Frames.{floatsAt, headerBytes, floatsBytes}
+
+-- a refusal leaves the output as it was
+abbrev pub leftBy : {A : Type 0} → ℕ → List A → Left A → Left A
+leftBy zero out x = x
+leftBy (suc k) out x = left (refusalOf (suc k)) out
+
+-- the loop of a list: its header and its three lists
+abbrev pub madeIf : Bool → List Float → ℕ → Made
+madeIf true l n = record { header = emptyHeader; positions = []; normals = []; classes = [] }
+madeIf false l n = made l n [] [] []
+
+unfoldable pub madeOf : List Float → Made
+madeOf l = madeIf (ltb (openedCount l) 3) l (openedCount l)
+
+-- a loop in bytes
+abbrev pub loopBytes : Made → List ℕ
+loopBytes m = headerBytes (m .header) ++ floatsBytes (m .positions) ++ floatsBytes (m .normals) ++ m .classes
+
+-- the corners that room is judged by
+unfoldable pub corners : ℕ → ℕ
+corners n = cond (ltb n 3) 0 n
+
+unfoldable pub needFault : ℕ → ℕ → ℕ
+needFault size n = cond (ltb size (88 + 49 * corners n)) 5 0
+
+-- of a list of floats
+unfoldable pub builtLeft : List Float → List ℕ → Left ℕ
+builtLeft l out =
+    leftBy (first (listFault l) (needFault (length out) (openedCount l))) out
+    (left (madeOf l .header .count) (sets out 0 (loopBytes (madeOf l))))
+
+-- of a list in bytes, 24 a position
+abbrev pub listAt : List ℕ → List Float
+listAt s = floatsAt s 0 (length s / 8)
+
+unfoldable pub buildLeft : List ℕ → List ℕ → Left ℕ
+buildLeft s out = leftBy (cond (eqb (length s % 24) 0) 0 1) out (builtLeft (listAt s) out)
+
+-- ---- inner
+-- the corners that there is room for
+unfoldable pub roomOf : ℕ → ℕ
+roomOf size = if ltb size 88 then 0 else (if ltb 512 ((size - 88) / 49) then 512 else (size - 88) / 49)
+
+pub record Roomy (out positions normals classes : ℕ) : Type 0 where
+  pub for-positions : positions ≡ 3 * roomOf out
+  pub for-normals : normals ≡ 3 * roomOf out
+  pub for-classes : classes ≡ roomOf out
+
+-- a loop that fits where its header does
+pub record Fitting (h : Header) (out positions normals classes : ℕ) : Type 0 where
+  pub most : h .count ≤ 512
+  pub within : 49 * h .count ≤ out - 88
+  pub for-positions : 3 * h .count ≤ positions
+  pub for-normals : 3 * h .count ≤ normals
+  pub for-classes : h .count ≤ classes
+
+abbrev pub front : Header → List Float → List Float → List ℕ → Made
+front h ps ns cs = record { header = h; positions = take (3 * h .count) ps; normals = take (3 * h .count) ns; classes = take (h .count) cs }
+
+unfoldable pub loopLeft : Header → List Float → List Float → List ℕ → List ℕ → Left ℕ
+loopLeft h ps ns cs out = if ltb (length out) 88 then left (refusalOf 5) out else left (h .count) (sets out 0 (loopBytes (front h ps ns cs)))

@@ -1,0 +1,65 @@
+// The desk's functions on loops, over bytes: each is one call.
+ghost use mathlib.Core.Path.{_≡_};
+ghost use Rattle.frames.specs.Left.{left};
+ghost use Rattle.building.specs.Building as Bu;
+ghost use Rattle.asking.specs.declared.Question.the-variants as Q;
+ghost use Rattle.asking.specs.Asking as As;
+use asking::Question;
+use vec3::Vec3;
+
+#[no_mangle]
+pub extern "C" fn desk_build(list: &[u8], out: &mut [u8]) -> u32
+    ensures { λ r. ⌜ left r (now (out .exit)) ≡ Bu.buildLeft (now (list .entry)) (now (out .entry)) ⌝ }
+{
+    building::build(list, out)
+}
+
+#[no_mangle]
+pub extern "C" fn desk_place(of: &[u8], position: &[u8]) -> u32
+    ensures { λ r. ⌜ r ≡ As.numberOf (As.askTold Q.Place (now (of .entry)) (now (position .entry))) ⌝ }
+{
+    asking::ask(Question::Place, of, position)
+}
+
+#[no_mangle]
+pub extern "C" fn desk_vertex(of: &[u8], position: &[u8]) -> u32
+    ensures { λ r. ⌜ r ≡ As.numberOf (As.askTold Q.Vertex (now (of .entry)) (now (position .entry))) ⌝ }
+{
+    asking::ask(Question::Vertex, of, position)
+}
+
+#[no_mangle]
+pub extern "C" fn desk_on_edge(of: &[u8], position: &[u8]) -> u32
+    ensures { λ r. ⌜ r ≡ As.numberOf (As.askTold Q.OnEdge (now (of .entry)) (now (position .entry))) ⌝ }
+{
+    asking::ask(Question::OnEdge, of, position)
+}
+
+#[no_mangle]
+pub extern "C" fn desk_convex(of: &[u8]) -> u32
+    ensures { λ r. ⌜ r ≡ As.numberOf (As.convexTold (now (of .entry))) ⌝ }
+{
+    asking::is_convex(of)
+}
+
+#[no_mangle]
+pub extern "C" fn desk_simple(of: &[u8]) -> u32
+    ensures { λ r. ⌜ r ≡ As.numberOf (As.simpleTold (now (of .entry))) ⌝ }
+{
+    asking::is_simple(of)
+}
+
+#[no_mangle]
+pub extern "C" fn desk_place_f64(
+    header: &[u8],
+    positions: &[f64],
+    normals: &[f64],
+    classes: &[u8],
+    x: f64,
+    y: f64,
+    z: f64,
+) -> u32
+    ensures { λ r. ⌜ r ≡ As.numberOf (As.placeTold (now (header .entry)) (now (positions .entry)) (now (normals .entry)) (now (classes .entry)) (record { x = x; y = y; z = z })) ⌝ }
+{
+    asking::place(header, positions, normals, classes, Vec3 { x, y, z })
+}

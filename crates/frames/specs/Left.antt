@@ -1,0 +1,14 @@
+-- What a call leaves: the number that it answers and its output buffer. Definitions only.
+use Prim.Native.Nat.{ℕ, _+_}
+use mathlib.Core.List.{List}
+
+pub record Left (A : Type 0) : Type 0 where
+  pub number : ℕ
+  pub out : List A
+
+abbrev pub left : {A : Type 0} → ℕ → List A → Left A
+left n out = record { number = n; out = out }
+
+-- "a refusal is 65,536 plus its number"
+abbrev pub refusalOf : ℕ → ℕ
+refusalOf f = 65536 + f

@@ -1,0 +1,3 @@
+pub mod Grades
+pub mod Firsts
+pub mod Orders

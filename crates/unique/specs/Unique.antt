@@ -1,0 +1,112 @@
+-- Document 01, "How much a contract must say": "for each input, refused ones too, only one answer and one final state of the lent buffers can satisfy it", for each
+-- public function by name, its contract written out. Proved in proofs/Theorem.antt. Definitions only.
+use Prim.Native.Nat.{ℕ}
+use mathlib.Core.Path.{_≡_}
+use mathlib.Core.List.{List}
+use lib.Ieee.{Float, binary64, ofBits, toBits}
+use Rattle.root.specs.Root.{rootOf}
+use Rattle.angle.specs.Arctan.{atan2}
+use Rattle.vec3.specs.declared.Vec3.{Vec3}
+use Rattle.minor_arc.specs.declared.MinorArc.{MinorArc}
+use Rattle.minor_arc.specs.declared.checked.ArcMade.{ArcMade}
+use Rattle.minor_arc.specs.declared.checked.Sided.{Sided}
+use Rattle.minor_arc.specs.declared.checked.Contained.{Contained}
+use Rattle.minor_arc.specs.declared.checked.Met.{Met}
+use Rattle.minor_arc.specs.declared.checked.ArcRelated.{ArcRelated}
+use Rattle.minor_arc.specs.Answers as Arcs
+use Rattle.header.specs.declared.Header.{Header}
+use Rattle.build.specs.declared.Built.{Built}
+use Rattle.build.specs.Build as Build
+use Rattle.ask.specs.declared.Placed.{Placed}
+use Rattle.ask.specs.declared.Answered.{Answered}
+use Rattle.ask.specs.Answers.{toldPlaced, toldAnswered}
+use Rattle.ask.specs.Questions.{placeAnswer, vertexAnswer, onEdgeAnswer, convexAnswer, simpleAnswer, equivalentAnswer}
+use Rattle.triangles.specs.declared.Cut.{Cut}
+use Rattle.triangles.specs.Triangles as Triangles
+use Rattle.triangles.specs.Triangles.{toldCut, cutOut, acceptsAnswer}
+use Rattle.relate.specs.declared.Related.{Related}
+use Rattle.relate.specs.Relations.{toldRelated, relateAnswer}
+use Rattle.exports.specs.Left.{Left}
+use Rattle.exports.specs.Arcs as Bytes
+use Rattle.exports.specs.Leaves as Leaves
+
+-- what satisfies the contract is one
+abbrev pub One : {A : Type 0} → (A → Type 0) → Type 0
+One {A} contract = (x y : A) → contract x → contract y → x ≡ y
+
+-- no two answers have the same number and values
+abbrev pub OneToOne : {A B : Type 0} → (A → B) → Type 0
+OneToOne {A} told = (x y : A) → told x ≡ told y → x ≡ y
+
+-- an answer with the buffers at exit
+pub record BuildEnd : Type 0 where
+  pub answer : Built
+  pub positions : List Float
+  pub normals : List Float
+  pub classes : List ℕ
+
+abbrev pub toldBuild : BuildEnd → Build.Out
+toldBuild e = record { answer = Build.told (e .answer); positions = e .positions; normals = e .normals; classes = e .classes }
+
+pub record CutEnd : Type 0 where
+  pub answer : Cut
+  pub triangles : List ℕ
+
+abbrev pub toldEnd : CutEnd → Triangles.Out
+toldEnd e = record { answer = toldCut (e .answer); triangles = e .triangles }
+
+-- "Any answer that is an enum has a definition": each is one-to-one
+pub record Definitions : Type 0 where
+  pub arc-made : OneToOne Arcs.toldMade
+  pub arc-sided : OneToOne Arcs.toldSided
+  pub arc-contained : OneToOne Arcs.toldContained
+  pub arc-met : OneToOne Arcs.toldMet
+  pub arc-related : OneToOne Arcs.toldRelated
+  pub built : OneToOne Build.told
+  pub placed : OneToOne toldPlaced
+  pub answered : OneToOne toldAnswered
+  pub cut : OneToOne toldCut
+  pub related : OneToOne toldRelated
+
+-- crate minor_arc, module checked
+pub record OfArcs : Type 0 where
+  pub new : (s e : Vec3) → One (λ (r : ArcMade). Arcs.toldMade r ≡ Arcs.newAnswer s e)
+  pub opposite : (a : MinorArc) → One (λ (r : ArcMade). Arcs.toldMade r ≡ Arcs.oppositeAnswer a)
+  pub side_of : (a : MinorArc) (p : Vec3) → One (λ (r : Sided). Arcs.toldSided r ≡ Arcs.sideAnswer a p)
+  pub contains_position : (a : MinorArc) (p : Vec3) → One (λ (r : Contained). Arcs.toldContained r ≡ Arcs.containsAnswer a p)
+  pub intersection : (a b : MinorArc) → One (λ (r : Met). Arcs.toldMet r ≡ Arcs.intersectionAnswer a b)
+  pub relate : (a b : MinorArc) → One (λ (r : ArcRelated). Arcs.toldRelated r ≡ Arcs.relateAnswer a b)
+
+-- crates build, ask, triangles and relate
+pub record OfLoops : Type 0 where
+  pub build : (l ps ns : List Float) (cs : List ℕ) → One (λ e. toldBuild e ≡ Build.out l ps ns cs)
+  pub contains_position : (h : Header) (ps ns : List Float) (cs : List ℕ) (p : Vec3) → One (λ (r : Placed). toldPlaced r ≡ placeAnswer h ps ns cs p)
+  pub has_vertex : (h : Header) (ps ns : List Float) (cs : List ℕ) (p : Vec3) → One (λ (r : Answered). toldAnswered r ≡ vertexAnswer h ps ns cs p)
+  pub any_edge_contains_position : (h : Header) (ps ns : List Float) (cs : List ℕ) (p : Vec3) → One (λ (r : Answered). toldAnswered r ≡ onEdgeAnswer h ps ns cs p)
+  pub is_convex : (h : Header) (ps ns : List Float) (cs : List ℕ) → One (λ (r : Answered). toldAnswered r ≡ convexAnswer h ps ns cs)
+  pub is_simple : (h : Header) (ps ns : List Float) (cs : List ℕ) → One (λ (r : Answered). toldAnswered r ≡ simpleAnswer h ps ns cs)
+  pub is_equivalent : (h : Header) (ps ns : List Float) (cs : List ℕ) (o : Header) (qs ms : List Float) (ds : List ℕ) → One (λ (r : Answered). toldAnswered r ≡ equivalentAnswer h ps ns cs o qs ms ds)
+  pub triangulate : (h : Header) (ps : List Float) (cs tris : List ℕ) → One (λ e. toldEnd e ≡ cutOut h ps cs tris)
+  pub accepts : (h : Header) (ps : List Float) (cs tris : List ℕ) → One (λ (r : Answered). toldAnswered r ≡ acceptsAnswer h ps cs tris)
+  pub relate : (h : Header) (ps ns : List Float) (cs : List ℕ) (o : Header) (qs ms : List Float) (ds : List ℕ) → One (λ (r : Related). toldRelated r ≡ relateAnswer h ps ns cs o qs ms ds)
+
+-- crate exports: a number, or a number with the bytes or floats at exit
+pub record OfExports : Type 0 where
+  pub desk_root : (b : ℕ) → One (λ (r : ℕ). r ≡ toBits binary64 (rootOf (ofBits binary64 b)))
+  pub desk_atan2 : (y x : ℕ) → One (λ (r : ℕ). r ≡ toBits binary64 (atan2 (ofBits binary64 y) (ofBits binary64 x)))
+  pub desk_arc : (s e out : List ℕ) → One (λ (l : Left ℕ). l ≡ Bytes.leave (Bytes.arcTold s e) out)
+  pub desk_arc_opposite : (a out : List ℕ) → One (λ (l : Left ℕ). l ≡ Bytes.leave (Bytes.oppositeTold a) out)
+  pub desk_arc_side : (a p : List ℕ) → One (λ (r : ℕ). r ≡ Bytes.numberOf (Bytes.sideTold a p))
+  pub desk_arc_contains : (a p : List ℕ) → One (λ (r : ℕ). r ≡ Bytes.numberOf (Bytes.containsTold a p))
+  pub desk_arc_intersection : (a b out : List ℕ) → One (λ (l : Left ℕ). l ≡ Bytes.leave (Bytes.intersectionTold a b) out)
+  pub desk_arc_relate : (a b out : List ℕ) → One (λ (l : Left ℕ). l ≡ Bytes.leave (Bytes.relateTold a b) out)
+  pub leaf_vec : (op : ℕ) (input out : List Float) → One (λ (l : Left Float). l ≡ Leaves.leafVec op input out)
+  pub leaf_number : (op : ℕ) (input : List Float) → One (λ (r : ℕ). r ≡ Leaves.leafNumber op input)
+  pub leaf_case : (op : ℕ) (input : List Float) → One (λ (r : ℕ). r ≡ Leaves.leafCase op input)
+  pub leaf_cap : (list out : List Float) → One (λ (l : Left Float). l ≡ Leaves.leafCap list out)
+
+pub record Unique : Type 0 where
+  pub definitions : Definitions
+  pub of-arcs : OfArcs
+  pub of-loops : OfLoops
+  pub of-exports : OfExports

@@ -13,7 +13,7 @@ use Rattle.ask.specs.Answers.{Told}
 use Rattle.ask.specs.Questions.{placeAnswer}
 use Rattle.triangles.specs.Triangles.{cutOut}
 use Rattle.triangles.specs.Triangles as Cut
-use Rattle.relate.specs.Relate.{relateAnswer}
+use Rattle.relate.specs.Relations.{relateAnswer}
 use Rattle.scenes.specs.declared.Area.{Area}
 use Rattle.scenes.specs.Areas.{after, builtAt, blank, counted, triangleCount, placeIn, pairIn, Room}
 

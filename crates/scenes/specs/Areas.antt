@@ -14,7 +14,7 @@ use Rattle.build.specs.Build.{Out, out}
 use Rattle.ask.specs.Answers.{Told, refused, answer}
 use Rattle.ask.specs.Questions.{placeAnswer}
 use Rattle.triangles.specs.Triangles.{cutOut}
-use Rattle.relate.specs.Relate.{relateAnswer}
+use Rattle.relate.specs.Relations.{relateAnswer}
 use Rattle.scenes.specs.declared.Area.{Area}
 use Rattle.scenes.specs.declared.Notes.{Notes}
 

@@ -4,7 +4,7 @@ ghost use Prim.Native.Nat.{_+_, _*_, _≤_, _<_};
 ghost use lib.ListN.{length, getD};
 ghost use Rattle.build.specs.Build as B;
 ghost use Rattle.ask.specs.Answers.{toldPlaced};
-ghost use Rattle.relate.specs.Relate.{toldRelated};
+ghost use Rattle.relate.specs.Relations.{toldRelated};
 ghost use Rattle.triangles.specs.Triangles.{toldCut};
 ghost use Rattle.lines.specs.Lines.{Wrote};
 ghost use Rattle.records.specs.Records.{floatsAt};

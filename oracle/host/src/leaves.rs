@@ -271,6 +271,13 @@ fn bounding(t: &mut Tally, r: &mut Random) {
     t.put(Export::LeafCap, vec![Arg::Floats(f), Arg::OutFloats(blank_floats(room))]);
 }
 
+/// The bounding cap alone: its lists are long, so it has a group for the long run.
+pub fn bounding_caps(t: &mut Tally, r: &mut Random, n: usize) {
+    for _ in 0..n {
+        bounding(t, r);
+    }
+}
+
 pub fn leaves(t: &mut Tally, r: &mut Random, n: usize) {
     for i in 0..n {
         let (a, b, c) = three(r);

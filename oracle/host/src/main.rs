@@ -3,6 +3,7 @@ mod arcs;
 mod bench;
 mod calls;
 mod constants;
+mod cuts;
 mod leaves;
 mod mutants;
 mod pairs;
@@ -25,15 +26,17 @@ host constants                   the numbers that the port records
 host compare GROUP [N] [SEED]    N inputs of a group (or all) to both sides; exit status 1 on a difference
 host groups                      the groups whose exports are there
 host record FILE [N]             about N recorded answers an export, for the program `replay`
+host rings INPUT OUTPUT          the samples of the program `cuts`, and what the source says of them
 host serve                       answers the stub's batches by the model (for host mutants)
 host mutants [WORD]              wrong programs in the port's place: each must be noticed
 host bench                       nanoseconds of both and their ratio";
 
 /// The groups, with the exports that they need one of.
-const GROUPS: [(&str, &[Export]); 11] = [
+const GROUPS: [(&str, &[Export]); 12] = [
     ("root", &[Export::Root]),
     ("atan", &[Export::Atan2]),
     ("leaves", &[Export::LeafVec, Export::LeafNumber, Export::LeafCase, Export::LeafCap]),
+    ("caps", &[Export::LeafCap]),
     (
         "arcs",
         &[
@@ -82,6 +85,7 @@ fn feed(group: &str, t: &mut Tally, r: &mut Random, n: usize) {
         "root" => leaves::root(t, r, n),
         "atan" => leaves::atan(t, r, n),
         "leaves" => leaves::leaves(t, r, n),
+        "caps" => leaves::bounding_caps(t, r, n),
         "arcs" => arcs::arcs(t, r, n),
         "build" => rings::build(t, r, n),
         "place" => rings::place(t, r, n),
@@ -95,7 +99,7 @@ fn feed(group: &str, t: &mut Tally, r: &mut Random, n: usize) {
 
 fn record(file: &str, wanted: usize) {
     let mut calls = Vec::new();
-    for (group, _) in GROUPS.iter().filter(|g| g.0 != "scene" && g.0 != "leaves") {
+    for (group, _) in GROUPS.iter().filter(|g| !["scene", "leaves", "caps"].contains(&g.0)) {
         let mut t = Tally::only_filled();
         feed(group, &mut t, &mut Random::new(1), wanted * 4);
         calls.extend(t.drain());
@@ -159,6 +163,10 @@ fn main() {
         }
         ["record", file, n] => {
             record(file, number(n) as usize);
+            true
+        }
+        ["rings", input, output] => {
+            cuts::write(input, output);
             true
         }
         ["serve"] => {

@@ -124,11 +124,11 @@ module _ (s : List ℕ) where
   many true e h = ltb-true 512 (countAt s) e
   many false e h = absurd (h refl)
 
-  is-large : (manyFault s ≡ 0 → ⊥) → 512 < countAt s
+  pub is-large : (manyFault s ≡ 0 → ⊥) → 512 < countAt s
   unfolding manyFault
   is-large h = many (ltb 512 (countAt s)) refl h
 
-  large-is : 512 < countAt s → manyFault s ≡ largeFault (stateOf (stateByte s))
+  pub large-is : 512 < countAt s → manyFault s ≡ largeFault (stateOf (stateByte s))
   unfolding manyFault
   large-is g = rw (lt-ltb 512 (countAt s) g)
 

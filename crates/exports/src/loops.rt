@@ -4,6 +4,7 @@ ghost use Rattle.frames.specs.Left.{left};
 ghost use Rattle.building.specs.Building as Bu;
 ghost use Rattle.asking.specs.declared.Question.the-variants as Q;
 ghost use Rattle.asking.specs.Asking as As;
+ghost use Rattle.slicing.specs.Slicing as Sl;
 use asking::Question;
 use vec3::Vec3;
 
@@ -62,4 +63,23 @@ pub extern "C" fn desk_place_f64(
     ensures { λ r. ⌜ r ≡ As.numberOf (As.placeTold (now (header .entry)) (now (positions .entry)) (now (normals .entry)) (now (classes .entry)) (record { x = x; y = y; z = z })) ⌝ }
 {
     asking::place(header, positions, normals, classes, Vec3 { x, y, z })
+}
+
+#[no_mangle]
+pub extern "C" fn desk_triangles(of: &[u8], out: &mut [u8]) -> u32
+    ensures { λ r. ⌜ left r (now (out .exit)) ≡ Sl.trianglesLeft (now (of .entry)) (now (out .entry)) ⌝ }
+{
+    slicing::cut(of, out)
+}
+
+#[no_mangle]
+pub extern "C" fn desk_triangles_f64(
+    header: &[u8],
+    positions: &[f64],
+    classes: &[u8],
+    out: &mut [u16],
+) -> u32
+    ensures { λ r. ⌜ left r (now (out .exit)) ≡ Sl.floatsLeft (now (header .entry)) (now (positions .entry)) (now (classes .entry)) (now (out .entry)) ⌝ }
+{
+    slicing::cut_floats(header, positions, classes, out)
 }

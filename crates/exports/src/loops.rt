@@ -1,11 +1,14 @@
 // The desk's functions on loops, over bytes: each is one call.
 ghost use mathlib.Core.Path.{_≡_};
+ghost use Rattle.pairing.specs.declared.Comparison.the-variants as C;
+ghost use Rattle.pairing.specs.Pairing as Pa;
 ghost use Rattle.frames.specs.Left.{left};
 ghost use Rattle.building.specs.Building as Bu;
 ghost use Rattle.asking.specs.declared.Question.the-variants as Q;
 ghost use Rattle.asking.specs.Asking as As;
 ghost use Rattle.slicing.specs.Slicing as Sl;
 use asking::Question;
+use pairing::Comparison;
 use vec3::Vec3;
 
 #[no_mangle]
@@ -82,4 +85,43 @@ pub extern "C" fn desk_triangles_f64(
     ensures { λ r. ⌜ left r (now (out .exit)) ≡ Sl.floatsLeft (now (header .entry)) (now (positions .entry)) (now (classes .entry)) (now (out .entry)) ⌝ }
 {
     slicing::cut_floats(header, positions, classes, out)
+}
+
+#[no_mangle]
+pub extern "C" fn desk_pair(a: &[u8], b: &[u8]) -> u32
+    ensures { λ r. ⌜ r ≡ As.numberOf (Pa.pairTold C.Relation (now (a .entry)) (now (b .entry))) ⌝ }
+{
+    pairing::pair(Comparison::Relation, a, b)
+}
+
+#[no_mangle]
+pub extern "C" fn desk_equivalent(a: &[u8], b: &[u8]) -> u32
+    ensures { λ r. ⌜ r ≡ As.numberOf (Pa.pairTold C.Equivalence (now (a .entry)) (now (b .entry))) ⌝ }
+{
+    pairing::pair(Comparison::Equivalence, a, b)
+}
+
+#[no_mangle]
+pub extern "C" fn desk_pair_f64(
+    header: &[u8],
+    positions: &[f64],
+    normals: &[f64],
+    classes: &[u8],
+    other: &[u8],
+    others: &[f64],
+    theirs: &[f64],
+    codes: &[u8],
+) -> u32
+    ensures { λ r. ⌜ r ≡ As.numberOf (Pa.floatsTold (now (header .entry)) (now (positions .entry)) (now (normals .entry)) (now (classes .entry)) (now (other .entry)) (now (others .entry)) (now (theirs .entry)) (now (codes .entry))) ⌝ }
+{
+    pairing::pair_floats(
+        header,
+        positions,
+        normals,
+        classes,
+        other,
+        others,
+        theirs,
+        codes,
+    )
 }

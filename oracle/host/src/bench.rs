@@ -195,3 +195,25 @@ pub fn bench() {
         }
     }
 }
+
+/// Calls ours, or the Rust, so many times and does nothing else: for a profile by `valgrind --tool=callgrind`.
+pub fn repeat(who: &str, what: &str, star: bool, n: usize, times: usize) {
+    let mut a = Both::of(&shape(star, n, CENTRE, 0.3));
+    let b = Both::of(&shape(star, n, crate::random::around(CENTRE, 2.2, 0.001), 0.1));
+    let p = crate::random::around(CENTRE, 0.123, 0.017);
+    let q = nvector(p);
+    let mut out = vec![0; 3 * n];
+    for _ in 0..times {
+        match (who, what) {
+            ("ours", "build") => drop(black_box(a.build())),
+            ("ours", "place") => drop(black_box(a.place(black_box(p)))),
+            ("ours", "pair") => drop(black_box(a.pair(black_box(&b)))),
+            ("ours", "triangles") => drop(black_box(a.triangles(&mut out))),
+            ("rust", "build") => drop(black_box(Loop::new(black_box(&a.vs)))),
+            ("rust", "place") => drop(black_box(a.rust.contains_position(black_box(q)))),
+            ("rust", "pair") => drop(black_box(a.rust.relate(black_box(&b.rust)))),
+            ("rust", "triangles") => drop(black_box(a.rust.triangulate())),
+            _ => panic!("ours or rust; build, place, pair or triangles"),
+        }
+    }
+}

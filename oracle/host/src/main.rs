@@ -29,7 +29,8 @@ host record FILE [N]             about N recorded answers an export, for the pro
 host rings INPUT OUTPUT          the samples of the program `cuts`, and what the source says of them
 host serve                       answers the stub's batches by the model (for host mutants)
 host mutants [WORD]              wrong programs in the port's place: each must be noticed
-host bench                       nanoseconds of both and their ratio";
+host bench                       nanoseconds of both and their ratio
+host repeat WHO WHAT SHAPE N TIMES   one call over and over, for a profile (ours or rust; star or convex)";
 
 /// The groups, with the exports that they need one of.
 const GROUPS: [(&str, &[Export]); 12] = [
@@ -177,6 +178,10 @@ fn main() {
         ["mutants", word] => mutants::run(&root().join("oracle"), word),
         ["bench"] => {
             bench::bench();
+            true
+        }
+        ["repeat", who, what, shape, n, times] => {
+            bench::repeat(who, what, *shape == "star", number(n) as usize, number(times) as usize);
             true
         }
         ["groups"] => {

@@ -1,5 +1,5 @@
 -- A loop in bytes that is refused ahead of being copied, and one that is copied. Assumes nothing.
-use Prim.Native.Nat.{ℕ, zero, suc, _+_, _-_, _*_, _≤_, _<_}
+use Prim.Native.Nat.{ℕ, zero, suc, _+_, _-_, _*_, _%_, _≤_, _<_}
 use mathlib.Core.Path.{_≡_, refl, sym, ap, _∙_}
 use mathlib.Core.Bool.{Bool, true, false, _&&_, cond}
 use mathlib.Core.List.{List, [], _∷_}
@@ -16,7 +16,7 @@ use Rattle.vec3.specs.declared.Vec3.{Vec3}
 use Rattle.header.specs.declared.State.{State}
 use Rattle.header.specs.declared.State.the-variants.{Empty, Full, Ring}
 use Rattle.header.specs.declared.Header.{Header}
-use Rattle.header.specs.Loops.{countFits, threesOf, shapeFault, ringFault, classesFault, cutFault, loopFault}
+use Rattle.header.specs.Loops.{countFits, threesOf, shapeFault, ringFault, classesFault, cutFault, checkFault, loopFault}
 use Rattle.ask.specs.Answers.{Told, refused, answer, judged}
 use Rattle.ask.specs.Questions.{queryFault, placeAnswer, vertexAnswer, onEdgeAnswer, convexAnswer, simpleAnswer}
 use Rattle.wire.specs.Wire.{vecOf}
@@ -62,6 +62,10 @@ module _ (h : Header) (ps : List Float) (cs : List ℕ) (g : 512 < h .count) (p 
   pub cut-large : cutFault h ps cs ≡ largeFault (h .state)
   unfolding cutFault
   cut-large = rw (shape-large h ps cs p q, ring-large h ps cs g) (large-by (h .state) (h .count) 2 g refl)
+
+  pub check-large : (size : ℕ) → size % 3 ≡ 0 → checkFault h ps cs size ≡ largeFault (h .state)
+  unfolding checkFault
+  check-large size t = rw (shape-large h ps cs p q, eq-eqb (size % 3) 0 t, ring-large h ps cs g) (large-by (h .state) (h .count) 2 g refl)
 
 -- ---- the loop's refusal is every answer's
 module _ (h : Header) (ps ns : List Float) (cs : List ℕ) where

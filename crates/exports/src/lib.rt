@@ -1,8 +1,8 @@
 // C-style exports over numbers and slices, for hosts that link libexports.a. Everything is little-endian; a refusal is 65,536 plus its number.
-mod arcs;
-mod floats;
+pub mod arcs;
+pub mod floats;
 mod leaves;
-mod loops;
+pub mod loops;
 
 ghost use mathlib.Core.Path.{_≡_};
 ghost use Rattle.exports.specs.Left.{refusalOf};

@@ -23,9 +23,9 @@ use Rattle.icosahedron.specs.Table.{triples}
 use Rattle.triangles.specs.Triangles as T
 use Rattle.frames.specs.Left.{Left, left, refusalOf}
 use Rattle.frames.specs.Frames.{countAt, stateByte, stateOf, headerAt, floatsAt, positionsAt, classesAt, headerFault, frameFault, largeFault, manyFault, copyFault}
-use Rattle.frames.proofs.Faults.{frame-size, Copyable, copyable}
+use Rattle.frames.proofs.Faults.{frame-size}
 use Rattle.asking.specs.Asking.{numberOf}
-use Rattle.asking.proofs.Asks.{floats-length, classes-length, cut-large, is-large, large-is}
+use Rattle.asking.proofs.Asks.{floats-length, classes-length, cut-large, is-large, large-is, copies}
 use Rattle.slicing.specs.Slicing.{leftBy, triplesOf, toldLeft, outLeft, blank, cutLeft, roomFault, partsLeft, trianglesLeft, numbersLeft, floatsLeft, Small, Array}
 
 -- ---- a count of triangles is small
@@ -115,18 +115,12 @@ early s out {f} {r} e n q = at (frameFault s) refl (e ∙ refl)
         parts-refused (headerAt s) (positionsAt s) (classesAt s) out (b ∙ large-is s g ∙ sym (bytes-large s a g)) n q
 
 module _ (s : List ℕ) {f : ℕ} (e : f ≡ copyFault s) (z : f ≡ 0) where
-  pub copies : Copyable s
-  copies = copyable s (sym e ∙ z)
-
-  pub small : {n : ℕ} → n ≡ countAt s → n ≤ 512
-  small q = omega (arith, copies .most)
-
   pub array : {n a : ℕ} → n ≡ countAt s → a ≡ 3 * n → Array s a
-  array q a = record { size = copies .size; most = copies .most; for-positions = rw (← q) a }
+  array q a = let d = copies s e z in record { size = d .size; most = d .most; for-positions = rw (← q) a }
 
   pub late : (out : List ℕ) {x : Left ℕ} → x ≡ partsLeft (headerAt s) (positionsAt s) (classesAt s) out → x ≡ trianglesLeft s out
   unfolding trianglesLeft
-  late out t = rw (copies .framed) t
+  late out t = rw (copies s e z .framed) t
 
 -- ---- with the header alone in bytes
 module _ (s : List ℕ) (ps : List Float) (cs out : List ℕ) {f : ℕ} (e : f ≡ headerFault s) where

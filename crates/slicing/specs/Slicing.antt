@@ -1,25 +1,26 @@
--- Triangles over bytes. "`desk_triangles(loop, out)`: number of triples written"; refusal 5: "of `desk_triangles`" fewer bytes than three u16 a triple, judged
--- "for a ring's triangles by n-2, before 8"; "Triangle bytes not in sixes: 1, with the loop's own 1 (ahead of its 2, 6, 3, 4)". Definitions only.
-use Prim.Native.Nat.{ℕ, zero, suc, _+_, _-_, _*_, _/_, _%_, _≤_}
+-- Triangles over bytes: "`desk_triangles(loop, out)`: number of triples written", three u16 each. 5: "an output is shorter than the result needs", judged
+-- "for a ring's triangles by n-2, before 8". Definitions only.
+use Prim.Native.Nat.{ℕ, zero, suc, _+_, _-_, _*_, _≤_}
 use mathlib.Core.Path.{_≡_}
-use mathlib.Core.Bool.{Bool, true, false, cond}
+use mathlib.Core.Bool.{cond}
 use mathlib.Core.List.{List}
 use lib.ListN.{length, replicate}
 use lib.Seq.{sets}
-use lib.Dec.{eqb, ltb}
+use lib.Dec.{ltb}
 use lib.Ieee.{Float}
 use Rattle.laws.specs.Loop.{first}
 use Rattle.header.specs.declared.State.{State}
 use Rattle.header.specs.declared.State.the-variants.{Empty, Full, Ring}
 use Rattle.header.specs.declared.Header.{Header}
 use Rattle.header.specs.Loops.{cutFault}
-use Rattle.ask.specs.Answers.{Told, refused, answer, judged}
+use Rattle.ask.specs.Answers.{Told, refused, answer}
 use Rattle.triangles.specs.declared.Cut.{Cut}
 use Rattle.triangles.specs.Triangles as T
 use Rattle.frames.specs.Left.{Left, left, refusalOf}
-use Rattle.frames.specs.Frames.{countAt, headerAt, positionsAt, classesAt, numbersAt, numbersBytes, headerFault, frameFault}
+use Rattle.frames.specs.Frames.{countAt, headerAt, positionsAt, classesAt, numbersBytes, headerFault, frameFault}
 use Rattle.asking.specs.Asking.{numberOf}
 
+-- a refusal leaves the output as it was
 abbrev pub leftBy : {A : Type 0} → ℕ → List A → Left A → Left A
 leftBy zero out x = x
 leftBy (suc k) out x = left (refusalOf (suc k)) out
@@ -80,6 +81,7 @@ Counted c = Small (T.toldCut c)
 abbrev pub laidLeft : Cut → List ℕ → List ℕ → Left ℕ
 laidLeft c l out = toldLeft (T.toldCut c) l out
 
+-- a loop in bytes with an array for its positions
 pub record Array (s : List ℕ) (positions : ℕ) : Type 0 where
   pub size : length s ≡ 88 + 49 * countAt s
   pub most : countAt s ≤ 512

@@ -2,7 +2,8 @@ use native.Mathlib.Omega.{arith}
 use mathlib.Core.Path.{sym}
 use Rattle.numbers.specs.F64 as F
 use Rattle.laws.proofs.Copies.{first-of}
-use Rattle.slicing.proofs.Slices.{early, copies, small, array, late}
+use Rattle.asking.proofs.Asks.{copies, small}
+use Rattle.slicing.proofs.Slices.{early, array, late}
 use borrow.Author.Needs.{needs}
 use Rattle.slicing.proofs.cut.Statement.{statement}
 use Rattle.slicing.proofs.cut.Tie as tie

@@ -1,15 +1,14 @@
 //! Writes recorded answers for the `replay` program.
 //!
-//! The file, all little-endian: the eight bytes "DESKREC1", u32 count of records, then the records. A record is
-//!   u8 export (the order of `calls::Export` and of stub.c), u8 count of arguments, u16 0, u64 expected value
-//!   (u32 answers widened), then its arguments, each u8 kind, three zero bytes, u32 size, and the bytes:
-//!   kind 0: a number, 8 bytes; kind 2: a slice that is read; kind 3: a slice that is written: these are the bytes
-//!   that it must hold after the call, where before the call byte i held 0xA5 xor (7 i mod 256).
-//! Only the exports on bytes and numbers are recorded (0 to 17), and only answers in the domain of equality or refusals.
+//! The file is one record after another, all little-endian. A record is a head of 16 bytes, u16 export (the order of
+//! `calls::Export` and of stub.c), u16 size of what is handed in first, u16 of what is handed in second, u16 of the
+//! output, u64 expected value (u32 answers widened), and then those bytes: the first, the second, and what the output
+//! must hold after the call, where before the call byte i held 0xA5 xor (7 i mod 256). A number that is handed in is
+//! 8 bytes.
+//! Only exports on bytes and numbers are recorded, and only answers in the domain of equality or refusals.
 use crate::calls::{Answer, Arg, Call, Export, by_model};
 
-pub const MAGIC: &[u8; 8] = b"DESKREC1";
-
+/// The exports on bytes and numbers.
 fn takes(e: Export) -> bool {
     (e as u32) < Export::BuildF64 as u32
 }
@@ -30,19 +29,22 @@ fn in_domain(c: &Call, a: &Answer) -> bool {
 }
 
 fn one(c: &Call, a: &Answer) -> Vec<u8> {
-    let mut b = vec![c.export as u8, c.args.len() as u8, 0, 0];
-    b.extend(a.value.to_le_bytes());
-    let mut outs = a.outs.iter();
+    let mut parts: [Vec<u8>; 3] = Default::default();
+    let mut handed = 0;
     for arg in &c.args {
-        let (kind, data) = match arg {
-            Arg::Bytes(d) => (2, d.clone()),
-            Arg::OutBytes(_) => (3, outs.next().unwrap().clone()),
-            _ => (0, arg.word().to_le_bytes().to_vec()),
-        };
-        b.extend([kind, 0, 0, 0]);
-        b.extend((data.len() as u32).to_le_bytes());
-        b.extend(data);
+        match arg {
+            Arg::OutBytes(_) => parts[2] = a.outs[0].clone(),
+            Arg::Bytes(d) => parts[handed] = d.clone(),
+            _ => parts[handed] = arg.word().to_le_bytes().to_vec(),
+        }
+        handed += 1;
     }
+    let mut b = (c.export as u16).to_le_bytes().to_vec();
+    for p in &parts {
+        b.extend((p.len() as u16).to_le_bytes());
+    }
+    b.extend(a.value.to_le_bytes());
+    b.extend(parts.concat());
     b
 }
 
@@ -61,9 +63,5 @@ pub fn file(calls: Vec<Call>, wanted: usize) -> (Vec<u8>, usize) {
             }
         }
     }
-    let mut out = MAGIC.to_vec();
-    out.extend((kept.len() as u32).to_le_bytes());
-    let n = kept.len();
-    out.extend(kept.concat());
-    (out, n)
+    (kept.concat(), kept.len())
 }

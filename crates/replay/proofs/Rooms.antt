@@ -1,0 +1,8 @@
+-- The front of a blank array is as long as it is asked for. Assumes nothing.
+use Prim.Native.Nat.{ℕ, _≤_}
+use mathlib.Core.Path.{sym, subst}
+use lib.ListN.{length, take, replicate}
+use Rattle.laws.proofs.Copies.{first-of}
+
+pub fits : {n s : ℕ} → n ≤ s → s ≤ 4096 → n ≤ length (take {A = ℕ} s (replicate 4096 0))
+fits {n} h g = subst (λ (k : ℕ). n ≤ k) (sym (first-of 4096 0 g)) h

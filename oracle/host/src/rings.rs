@@ -507,6 +507,18 @@ fn spoil(r: &mut Random, triples: &[[u16; 3]], n: usize) -> Vec<[u16; 3]> {
     out
 }
 
+/// A list that begins as the right one and goes on, mostly beyond what any ring has.
+fn long(r: &mut Random, triples: &[[u16; 3]]) -> Vec<u8> {
+    let size = *r.pick(&[509, 510, 511, 512, 1_021, 10_923, 21_846]);
+    let mut out = triples.to_vec();
+    out.resize(size.max(out.len()), [0, 1, 2]);
+    let mut b = triple_bytes(&out);
+    if r.chance(4) {
+        b.truncate(b.len() - 1 - r.below(5));
+    }
+    b
+}
+
 pub fn accepts(t: &mut Tally, r: &mut Random, n: usize) {
     for _ in 0..n {
         let len = shapes::length(r).min(if r.chance(10) { 512 } else { 60 });
@@ -515,6 +527,9 @@ pub fn accepts(t: &mut Tally, r: &mut Random, n: usize) {
             let junk = triple_bytes(&[[0, 1, 2]; 2]);
             let keep = if r.chance(2) { 12 } else { r.below(13) };
             t.put(Export::Accepts, vec![by(&l), by(&junk[..keep])]);
+            if r.chance(8) {
+                t.put_as(Export::Accepts, vec![by(&l), by(&long(r, &[]))], "long list");
+            }
             continue;
         };
         let n = ring.vertices.len();
@@ -529,6 +544,9 @@ pub fn accepts(t: &mut Tally, r: &mut Random, n: usize) {
             let from = if r.chance(2) { &right } else { other.as_ref().unwrap_or(&right) };
             let bad = spoil(r, from, n);
             t.put(Export::Accepts, vec![by(&l), by(&triple_bytes(&bad))]);
+        }
+        if r.chance(8) {
+            t.put_as(Export::Accepts, vec![by(&l), by(&long(r, &right))], "long list");
         }
         let mut odd = triple_bytes(&right);
         odd.truncate(odd.len().saturating_sub(1 + r.below(5)));

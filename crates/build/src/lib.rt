@@ -16,7 +16,7 @@ pub enum Built {
 }
 
 // Refusals 1 to 4 of a list.
-fn list_fault(list: &[f64]) -> u8
+pub fn list_fault(list: &[f64]) -> u8
     ensures { λ r. ⌜ r ≡ B.listFault (now (list .entry)) ⌝ }
 {
     if list.len() % 3 != 0 {

@@ -1,12 +1,13 @@
 -- A loop that was built in arrays, and its bytes. Assumes nothing.
 use Prim.Native.Nat.{ℕ, zero, suc, _+_, _-_, _*_, _/_, _%_, _≤_, _<_}
-use mathlib.Core.Path.{_≡_, refl, sym, ap, _∙_}
-use mathlib.Core.Bool.{Bool, true, false, cond}
+use mathlib.Core.Path.{_≡_, refl, sym, ap, _∙_, subst}
+use mathlib.Core.Logic.{_⊎_, inl, inr}
+use mathlib.Core.Bool.{Bool, true, false, _&&_, _||_, cond}
 use mathlib.Core.List.{List, [], _∷_, _++_, append-nil}
 use native.Mathlib.Omega.{arith}
 use lib.ListN.{length, take, drop, drop-of-length-le, length-append}
 use lib.Seq.{sets, take-at, length-take-le}
-use lib.Dec.{ltb}
+use lib.Dec.{leb, ltb}
 use lib.Ieee.{Float}
 use borrow.Author.Tests.{lt-ltb, le-ltb, ltb-true, ltb-false, eq-eqb, ne-eqb}
 use Rattle.laws.specs.Loop.{first}
@@ -16,11 +17,12 @@ use Rattle.ring.proofs.Edges.{size}
 use Rattle.header.specs.declared.Header.{Header}
 use Rattle.build.specs.Build as B
 use Rattle.build.proofs.Rooms.{list-fine}
+use Rattle.build.proofs.Rooms as R
 use Rattle.frames.specs.Left.{Left, left, refusalOf}
 use Rattle.frames.specs.Frames.{floatBlock, floatsAt, floatsBytes, headerBytes}
 use Rattle.frames.proofs.Lays.{two, floats-width, header-width}
-use Rattle.building.specs.Building.{leftBy, madeIf, madeOf, loopBytes, needFault, builtLeft, buildLeft, listAt, roomOf, Roomy, Fitting, front, loopLeft}
-use Rattle.building.proofs.Rooms.{Behind, behind, same-refusal, fits, fine, no-need, header-need}
+use Rattle.building.specs.Building.{leftBy, madeIf, madeOf, loopBytes, needFault, builtLeft, buildLeft, listAt, roomOf, Roomy, Fitting, front, loopLeft, outLeft, headerLeft, floatsLeft, shortHeader, Counted}
+use Rattle.building.proofs.Rooms.{Behind, behind, need-none, need-header, same-refusal, fits, fine, no-need, header-need}
 
 -- ---- the front of what was written is the loop
 abbrev emptied : {A : Type 0} → List A → List A
@@ -200,3 +202,53 @@ roomy size e a b d = record { for-positions = rw (← e) a; for-normals = rw (�
 
 pub given-size : (s : List ℕ) (p : ℕ) → p ≡ 3 * (length s / 24) → length s % 24 ≡ 0 → 8 * p ≡ length s
 given-size s p e h = omega arith
+
+-- ---- with the header alone in bytes
+five-or-none : (n p q r : ℕ) → (B.roomFault n p q r ≡ 0) ⊎ (B.roomFault n p q r ≡ 5)
+unfolding B.roomFault
+five-or-none n p q r = at (leb 3 n && ((ltb p (3 * n) || ltb q (3 * n)) || ltb r n))
+  where
+    at : (b : Bool) → (_≡_ {A = ℕ} (cond b 5 0) 0) ⊎ (_≡_ {A = ℕ} (cond b 5 0) 5)
+    at true = inr refl
+    at false = inl refl
+
+one-five : (a b : ℕ) → (b ≡ 0) ⊎ (b ≡ 5) → first (first a b) 5 ≡ first a 5
+one-five (suc a) b o = refl
+one-five zero b (inl e) = rw e
+one-five zero b (inr e) = rw e
+
+first-none : (a : ℕ) → first a 0 ≡ a
+first-none zero = refl
+first-none (suc a) = refl
+
+module _ (l ps ns : List Float) (cs header : List ℕ) where
+  short-five : first (B.refusal l ps ns cs) 5 ≡ first (B.listFault l) 5
+  unfolding B.refusal
+  short-five = one-five (B.listFault l) _ (five-or-none (B.openedCount l) (length ps) (length ns) (length cs))
+
+  pub unheaded : {r : ℕ} → length header < 88 → r ≡ shortHeader l → record { number = r; header = header; positions = ps; normals = ns; classes = cs } ≡ floatsLeft l header ps ns cs
+  unfolding floatsLeft
+  unheaded g q = rw (need-header (length header) 0 g, short-five, q) (at (B.listFault l))
+    where
+      at : (f : ℕ) → record { number = refusalOf (first f 5); header = header; positions = ps; normals = ns; classes = cs } ≡ outLeft (B.outBy (first f 5) l ps ns cs) header
+      at zero = refl
+      at (suc f) = refl
+
+  room-above : 88 ≤ length header → floatsLeft l header ps ns cs ≡ outLeft (B.out l ps ns cs) header
+  unfolding floatsLeft B.out
+  room-above g = rw (need-none (length header) 0 g (λ (z : 3 ≤ 0). absurd (omega arith)), first-none (B.refusal l ps ns cs))
+
+  counted-by : (k : ℕ) → B.refusal l ps ns cs ≡ k → Counted (B.outBy k l ps ns cs .answer)
+  counted-by (suc k) e = tt
+  counted-by zero e =
+      let m = list-fine l (R.fine l ps ns cs e .0) in
+      subst (λ (x : B.Told). Counted x) (sym (header-is l (B.openedCount l) ps ns cs (ltb (B.openedCount l) 3))) (omega (arith, m .small, count-most l (B.openedCount l) (ltb (B.openedCount l) 3)))
+
+  module _ {u : B.Told} {ps′ ns′ : List Float} {cs′ : List ℕ} (e : record { answer = u; positions = ps′; normals = ns′; classes = cs′ } ≡ B.out l ps ns cs) where
+    pub counted-told : Counted u
+    unfolding B.out
+    counted-told = subst (λ (x : B.Told). Counted x) (sym (ap (λ (o : B.Out). o .answer) e)) (counted-by (B.refusal l ps ns cs) refl)
+
+    pub headed : {r : ℕ} {header′ : List ℕ} → 88 ≤ length header → left r header′ ≡ headerLeft u header
+        → record { number = r; header = header′; positions = ps′; normals = ns′; classes = cs′ } ≡ floatsLeft l header ps ns cs
+    headed g q = rw (room-above g, ap (λ (x : Left ℕ). x .number) q, ap (λ (x : Left ℕ). x .out) q) (ap (λ (o : B.Out). outLeft o header) e)

@@ -1,4 +1,4 @@
--- Building over bytes. "`desk_build(list, out)`: count of the loop written to `out` (0 for empty and full, whose 88 bytes are written)"; refusal 5: "`out` of
+-- Building over bytes, and over floats with the header in bytes. "`desk_build(list, out)`: count of the loop written to `out` (0 for empty and full, whose 88 bytes are written)"; refusal 5: "`out` of
 -- `desk_build` shorter than 88 + 49n (n the opened count, 0 below three; so below 88 for an empty loop too)". Definitions only.
 use Prim.Native.Nat.{ℕ, zero, suc, _+_, _-_, _*_, _/_, _%_, _≤_}
 use mathlib.Core.Path.{_≡_}
@@ -13,6 +13,7 @@ use Rattle.laws.specs.Loop.{first}
 use Rattle.header.specs.declared.Header.{Header}
 use Rattle.header.specs.Loops.{emptyHeader}
 use Rattle.build.specs.Build.{listFault, openedCount, Made, made}
+use Rattle.build.specs.Build as B
 use Rattle.frames.specs.Left.{Left, left, refusalOf}
 use Rattle.frames.specs.Frames.{floatsAt, headerBytes, floatsBytes}
 
@@ -53,7 +54,41 @@ listAt s = floatsAt s 0 (length s / 8)
 unfoldable pub buildLeft : List ℕ → List ℕ → Left ℕ
 buildLeft s out = leftBy (cond (eqb (length s % 24) 0) 0 1) out (builtLeft (listAt s) out)
 
+-- with the header alone in bytes: what building leaves in the three slices, and its header
+pub record FloatsLeft : Type 0 where
+  pub number : ℕ
+  pub header : List ℕ
+  pub positions : List Float
+  pub normals : List Float
+  pub classes : List ℕ
+
+abbrev pub headerLeft : B.Told → List ℕ → Left ℕ
+headerLeft (B.refused f) header = left (refusalOf f) header
+headerLeft (B.loop h) header = left (h .count) (sets header 0 (headerBytes h))
+
+abbrev pub outLeft : B.Out → List ℕ → FloatsLeft
+outLeft o header = record {
+  number = headerLeft (o .answer) header .number;
+  header = headerLeft (o .answer) header .out;
+  positions = o .positions;
+  normals = o .normals;
+  classes = o .classes;
+}
+
+-- "the `_f64` header shorter than 88 or its slices too short"
+unfoldable pub floatsLeft : List Float → List ℕ → List Float → List Float → List ℕ → FloatsLeft
+floatsLeft l header ps ns cs = outLeft (B.outBy (first (B.refusal l ps ns cs) (needFault (length header) 0)) l ps ns cs) header
+
 -- ---- inner
+-- the refusal of a list whose header has no room
+abbrev pub shortHeader : List Float → ℕ
+shortHeader l = refusalOf (first (listFault l) 5)
+
+-- a count that four bytes hold
+abbrev pub Counted : B.Told → Type 0
+Counted (B.refused f) = Unit
+Counted (B.loop h) = h .count ≤ 512
+
 -- the corners that there is room for
 unfoldable pub roomOf : ℕ → ℕ
 roomOf size = if ltb size 88 then 0 else (if ltb 512 ((size - 88) / 49) then 512 else (size - 88) / 49)

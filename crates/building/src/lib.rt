@@ -2,6 +2,7 @@
 ghost use mathlib.Core.Path.{_≡_};
 ghost use Prim.Native.Nat.{_+_, _*_, _-_, _≤_, _<_};
 ghost use lib.ListN.{length};
+ghost use Rattle.build.specs.Build as B;
 ghost use Rattle.frames.specs.Left.{left};
 ghost use Rattle.building.specs.Building as Bu;
 use build::Built;
@@ -96,4 +97,34 @@ pub fn build(list: &[u8], out: &mut [u8]) -> u32
         &mut normals[..size],
         &mut classes[..n],
     )
+}
+
+// A header in bytes that have room for it.
+fn leave_header(b: Built, header: &mut [u8]) -> u32
+    requires { ⌜ Bu.Counted (B.told b) × (88 ≤ length (now header)) ⌝ }
+    ensures { λ r. ⌜ left r (now (header .exit)) ≡ Bu.headerLeft (B.told b) (now (header .entry)) ⌝ }
+{
+    match b {
+        Built::Refused(f) => refusal(f),
+        Built::Loop(h) => {
+            frames::put_header(header, h);
+            h.count as u32
+        }
+    }
+}
+
+// Builds a loop of positions in floats, with its header alone in bytes: their room is judged ahead of any writing.
+pub fn build_floats(
+    list: &[f64],
+    header: &mut [u8],
+    positions: &mut [f64],
+    normals: &mut [f64],
+    classes: &mut [u8],
+) -> u32
+    ensures { λ r. ⌜ record { number = r; header = now (header .exit); positions = now (positions .exit); normals = now (normals .exit); classes = now (classes .exit) } ≡ Bu.floatsLeft (now (list .entry)) (now (header .entry)) (now (positions .entry)) (now (normals .entry)) (now (classes .entry)) ⌝ }
+{
+    if header.len() < 88 {
+        return refusal(judge::first(build::list_fault(list), 5));
+    }
+    leave_header(build::build(list, positions, normals, classes), header)
 }

@@ -133,3 +133,16 @@ pub extern "C" fn desk_pair_f64(
         codes,
     )
 }
+
+#[no_mangle]
+pub extern "C" fn desk_build_f64(
+    list: &[f64],
+    header: &mut [u8],
+    positions: &mut [f64],
+    normals: &mut [f64],
+    classes: &mut [u8],
+) -> u32
+    ensures { λ r. ⌜ record { number = r; header = now (header .exit); positions = now (positions .exit); normals = now (normals .exit); classes = now (classes .exit) } ≡ Bu.floatsLeft (now (list .entry)) (now (header .entry)) (now (positions .entry)) (now (normals .entry)) (now (classes .entry)) ⌝ }
+{
+    building::build_floats(list, header, positions, normals, classes)
+}

@@ -13,7 +13,7 @@ use Rattle.vec3.specs.declared.Vec3.{Vec3}
 use Rattle.wire.specs.Wire.{vecOf, vecBytes}
 use Rattle.minor_arc.specs.declared.MinorArc.{MinorArc}
 use Rattle.minor_arc.specs.Answers.{Told, refused, answer, judged, arcFault, newAnswer, oppositeAnswer, sideAnswer, containsAnswer, intersectionAnswer, relateAnswer}
-use Rattle.exports.specs.Left.{Left, left, refusalOf}
+use Rattle.frames.specs.Left.{Left, left, refusalOf}
 
 abbrev pub arcAt : List ℕ → MinorArc
 arcAt s = record { start = vecOf s 0; end = vecOf s 24; normal = vecOf s 48 }

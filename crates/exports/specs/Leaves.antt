@@ -22,7 +22,7 @@ use Rattle.base.specs.Turns.{sineOf, turnOf}
 use Rattle.chord_length.specs.Chords.{squared, chord, sum}
 use Rattle.cap.specs.declared.Cap.{Cap}
 use Rattle.cap.specs.Caps.{contains, meet, boundingCap}
-use Rattle.exports.specs.Left as L
+use Rattle.frames.specs.Left as L
 
 -- the operand numbered i
 abbrev pub rawAt : List Float → ℕ → Vec3

@@ -2,12 +2,12 @@
 ghost use mathlib.Core.Path.{_≡_};
 ghost use Prim.Native.Nat.{_+_, _*_, _≤_, _<_};
 ghost use lib.ListN.{length};
-ghost use Rattle.exports.specs.Left.{left};
+ghost use Rattle.frames.specs.Left.{left};
 ghost use Rattle.exports.specs.Leaves as Leaves;
-use crate::refusal;
 use base::Side;
 use cap::Cap;
 use chord_length::ChordLength;
+use frames::refusal;
 use vec3::Point;
 use vec3::Vec3;
 

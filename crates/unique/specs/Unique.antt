@@ -26,7 +26,12 @@ use Rattle.triangles.specs.Triangles as Triangles
 use Rattle.triangles.specs.Triangles.{toldCut, cutOut, acceptsAnswer}
 use Rattle.relate.specs.declared.Related.{Related}
 use Rattle.relate.specs.Relations.{toldRelated, relateAnswer}
-use Rattle.exports.specs.Left.{Left}
+use Rattle.frames.specs.Left.{Left}
+use Rattle.building.specs.Building.{buildLeft}
+use Rattle.asking.specs.declared.Question.the-variants as Question
+use Rattle.asking.specs.Asking as Asking
+use Rattle.slicing.specs.Slicing as Slicing
+use Rattle.slicing.specs.Checking as Checking
 use Rattle.exports.specs.Arcs as Bytes
 use Rattle.exports.specs.Leaves as Leaves
 
@@ -100,6 +105,16 @@ pub record OfExports : Type 0 where
   pub desk_arc_contains : (a p : List ℕ) → One (λ (r : ℕ). r ≡ Bytes.numberOf (Bytes.containsTold a p))
   pub desk_arc_intersection : (a b out : List ℕ) → One (λ (l : Left ℕ). l ≡ Bytes.leave (Bytes.intersectionTold a b) out)
   pub desk_arc_relate : (a b out : List ℕ) → One (λ (l : Left ℕ). l ≡ Bytes.leave (Bytes.relateTold a b) out)
+  pub desk_build : (list out : List ℕ) → One (λ (l : Left ℕ). l ≡ buildLeft list out)
+  pub desk_place : (s p : List ℕ) → One (λ (r : ℕ). r ≡ Asking.numberOf (Asking.askTold Question.Place s p))
+  pub desk_vertex : (s p : List ℕ) → One (λ (r : ℕ). r ≡ Asking.numberOf (Asking.askTold Question.Vertex s p))
+  pub desk_on_edge : (s p : List ℕ) → One (λ (r : ℕ). r ≡ Asking.numberOf (Asking.askTold Question.OnEdge s p))
+  pub desk_convex : (s : List ℕ) → One (λ (r : ℕ). r ≡ Asking.numberOf (Asking.convexTold s))
+  pub desk_simple : (s : List ℕ) → One (λ (r : ℕ). r ≡ Asking.numberOf (Asking.simpleTold s))
+  pub desk_place_f64 : (s : List ℕ) (ps ns : List Float) (cs : List ℕ) (p : Vec3) → One (λ (r : ℕ). r ≡ Asking.numberOf (Asking.placeTold s ps ns cs p))
+  pub desk_triangles : (s out : List ℕ) → One (λ (l : Left ℕ). l ≡ Slicing.trianglesLeft s out)
+  pub desk_triangles_f64 : (s : List ℕ) (ps : List Float) (cs out : List ℕ) → One (λ (l : Left ℕ). l ≡ Slicing.floatsLeft s ps cs out)
+  pub desk_accepts : (s t : List ℕ) → One (λ (r : ℕ). r ≡ Asking.numberOf (Checking.acceptsTold s t))
   pub leaf_vec : (op : ℕ) (input out : List Float) → One (λ (l : Left Float). l ≡ Leaves.leafVec op input out)
   pub leaf_number : (op : ℕ) (input : List Float) → One (λ (r : ℕ). r ≡ Leaves.leafNumber op input)
   pub leaf_case : (op : ℕ) (input : List Float) → One (λ (r : ℕ). r ≡ Leaves.leafCase op input)

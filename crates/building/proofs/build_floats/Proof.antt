@@ -10,7 +10,7 @@ build-floats-spec =
     (tie.spec
     (λ c κs. search needs) (λ c κs. search needs) (λ c κs. search needs)
     (λ c. let a = c .before .before .before .before .before .before .before .before .before .args in
-    unheaded (a .list .now) (a .positions .now) (a .normals .now) (a .classes .now) (a .header .now) (c .before .before .before .if1 .taken) (simp (c .before .first .ensures, c .before .before .list-fault .ensures) at (c .refusal .ensures)))
+    unheaded (a .list .now) (a .positions .now) (a .normals .now) (a .classes .now) (a .header .now) (omega (arith, c .before .before .before .if1 .taken)) (simp (c .before .first .ensures, c .before .before .list-fault .ensures) at (c .refusal .ensures)))
     (λ c κs. search needs)
     (λ c κs. let a = c .before .before .before .before .before .before .before .before .before .before .before .before .before .before .before .before .before .args in
     (counted-told (a .list .now) (a .positions .now) (a .normals .now) (a .classes .now) (a .header .now) (c .before .before .before .before .before .before .before .build .ensures), c .before .before .before .before .before .before .before .before .before .before .before .if1 .left))

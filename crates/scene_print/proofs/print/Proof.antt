@@ -4,11 +4,11 @@ use lib.ListN.{length}
 use Prim.Native.Nat.{_≤_}
 use mathlib.Core.Path.{_≡_, sym}
 use borrow.Author.Needs.{needs}
-use Rattle.scene.proofs.answer.Statement.{statement}
-use Rattle.scene.proofs.answer.Tie as tie
+use Rattle.scene_print.proofs.print.Statement.{statement}
+use Rattle.scene_print.proofs.print.Tie as tie
 
-pub answer-spec : {M : Type 1} → statement M
-answer-spec =
+pub print-spec : {M : Type 1} → statement M
+print-spec =
     tie.close
     (tie.spec
     (λ c. search needs) (λ c κs. search needs)

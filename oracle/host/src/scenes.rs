@@ -1,5 +1,6 @@
 //! Runs over scenes: whole ones, and damaged in every way that document 01 names.
 use crate::calls::{Answer, Arg, Call, Export, blank, by_model};
+use crate::pairs::two_lists;
 use crate::port::emulator;
 use crate::random::{P, Random, add, along, bytes, list_bytes, unit};
 use crate::shapes;
@@ -39,6 +40,13 @@ fn records(r: &mut Random) -> Vec<Vec<u8>> {
     let mut out = Vec::new();
     let mut areas: Vec<(u16, Vec<P>)> = Vec::new();
     let mut given = 0;
+    if r.chance(2) {
+        // Two areas that have to do with each other, and their pair both ways round.
+        let (a, b) = two_lists(r);
+        out.extend([area(21, &a), area(22, &b), pair(21, 22), pair(22, 21)]);
+        given = a.len() + b.len();
+        areas.extend([(21, a), (22, b)]);
+    }
     for _ in 0..r.below(40) {
         match r.below(3) {
             0 if areas.len() < most => {

@@ -1,6 +1,2 @@
-pub mod Tables
-pub mod Stores
-pub mod Counts
-pub mod Steps
-pub mod Goods
 pub mod Runs
+pub mod Unique

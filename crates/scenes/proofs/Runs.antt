@@ -2,34 +2,25 @@
 use Prim.Native.Nat.{ℕ, suc, _+_, _-_, _*_, _≤_, _<_}
 use mathlib.Core.Path.{_≡_, refl, sym, ap, _∙_}
 use mathlib.Core.Bool.{Bool, true, false, false≢true}
-use mathlib.Core.List.{List, [], _∷_, _++_}
+use mathlib.Core.List.{List, _++_}
 use native.Mathlib.Nat.{not-suc-le-zero}
 use native.Mathlib.Omega.{arith}
-use lib.ListN.{length, take}
+use lib.ListN.{length}
 use lib.Ieee.{Float}
 use borrow.Author.Tests.{lt-ltb, le-ltb}
 use Rattle.laws.proofs.Loops.{left}
 use Rattle.lines.specs.declared.Line.{Line}
 use Rattle.lines.specs.Lines.{lineText, refusedLine, Wrote}
 use Rattle.lines.proofs.Writes.{then}
-use Rattle.records.specs.declared.Read.{Read}
-use Rattle.records.specs.Records.{readAt, sizeOf}
 use Rattle.records.proofs.Sizes.{within}
-use Rattle.scenes.specs.declared.Notes.{Notes}
-use Rattle.scenes.specs.declared.Outcome.{Outcome}
-use Rattle.scenes.specs.declared.Outcome.the-variants as Outcome
-use Rattle.scenes.specs.declared.Stepped.{Stepped}
-use Rattle.scenes.specs.Areas.{Scene, Kept, view, Fresh}
-use Rattle.scenes.specs.Scenes.{Step, wrote, stepBy, step, textBy, linesFrom, starting, linesOf, Good, outcomeStep, toldStep, Sized, Ready, lineOf, goesOn, Running, blankFloats, blankCodes, sceneText}
-use Rattle.scenes.proofs.Goods.{Onward, onward}
-
--- ---- a record by its kind
-pub ready-on : {s : List ℕ} {c : Notes} {ps ns : List Float} {cs : List ℕ} {r x : Read} → Ready s c 0 ps ns cs → r ≡ readAt s (c .at) → r ≡ x → Ready s c (sizeOf x) ps ns cs
-ready-on {s} {c} y e q = record { good = y .good; kept = y .kept; sized = y .sized; whole = rw (← q, e) (within s (c .at) (y .good .within)) }
-
-pub step-is : (s : List ℕ) (w : Scene) {r x : Read} {t : Step} → r ≡ readAt s (w .at) → r ≡ x → t ≡ stepBy x s w → t ≡ step s w
-unfolding step
-step-is s w e q h = rw (← e, q) h
+use Rattle.steps.specs.declared.Notes.{Notes}
+use Rattle.steps.specs.declared.Outcome.{Outcome}
+use Rattle.steps.specs.declared.Outcome.the-variants as Outcome
+use Rattle.steps.specs.declared.Stepped.{Stepped}
+use Rattle.steps.specs.Noted.{Scene, Kept, view, Fresh}
+use Rattle.steps.specs.Steps.{Step, wrote, step, outcomeStep, toldStep, Ready}
+use Rattle.scenes.specs.Scenes.{textBy, linesFrom, starting, linesOf, lineOf, goesOn, Running, blankFloats, blankCodes, sceneText}
+use Rattle.steps.proofs.Goods.{Onward, onward}
 
 -- ---- the text of an outcome
 module _ (v w : Scene) (rest : Scene → List ℕ) where

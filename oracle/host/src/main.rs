@@ -27,6 +27,7 @@ host compare GROUP [N] [SEED]    N inputs of a group (or all) to both sides; exi
 host groups                      the groups whose exports are there
 host record FILE [N]             about N recorded answers an export, for the program `replay`
 host rings INPUT OUTPUT          the samples of the program `cuts`, and what the source says of them
+host expected FILE               what the model says of the scenes in FILE (samples/make.py), for the stored test `scene_runs`
 host serve                       answers the stub's batches by the model (for host mutants)
 host mutants [WORD]              wrong programs in the port's place: each must be noticed
 host bench                       nanoseconds of both and their ratio
@@ -66,18 +67,29 @@ fn root() -> PathBuf {
     }
 }
 
+fn stub() -> PathBuf {
+    std::env::var_os("DESK_STUB").map_or(root().join("oracle/target/stub"), PathBuf::from)
+}
+
 fn open() -> Port {
-    let stub = std::env::var_os("DESK_STUB").map_or(root().join("oracle/target/stub"), PathBuf::from);
-    Port::open(&stub).unwrap_or_else(|| {
+    Port::open(&stub()).unwrap_or_else(|| {
         eprintln!("no port: link libexports.a (x86-64) or make oracle/target/stub (oracle/stub/build)");
         std::process::exit(2);
     })
 }
 
+/// A tally over the port. The scene program is run by itself, so scenes need no port.
+fn tally(group: &str) -> Tally {
+    match Port::open(&stub()) {
+        None if group == "scene" => Tally::only_filled(),
+        _ => Tally::new(open()),
+    }
+}
+
 fn available(t: &mut Tally, group: &str) -> bool {
     let (_, exports) = GROUPS.iter().find(|g| g.0 == group).unwrap();
     let scene = group == "scene" && scenes::Program::find(&root()).is_some();
-    scene || exports.iter().any(|e| t.has(*e))
+    scene || (t.ported() && exports.iter().any(|e| t.has(*e)))
 }
 
 /// Puts a group's inputs to a tally.
@@ -111,7 +123,7 @@ fn record(file: &str, wanted: usize) {
 }
 
 fn run(group: &str, n: usize, seed: u64) -> bool {
-    let mut t = Tally::new(open());
+    let mut t = tally(group);
     if !available(&mut t, group) {
         println!("{group}: not there yet");
         return true;
@@ -129,7 +141,7 @@ fn compare(group: &str, n: usize, seed: u64) -> bool {
         eprintln!("no group {group}");
         std::process::exit(2);
     }
-    println!("the port is {}", open().name());
+    println!("the port is {}", Port::open(&stub()).map_or("target/bin/scene alone", |p| p.name()));
     names.iter().filter(|g| !run(g, n, seed)).count() == 0
 }
 
@@ -168,6 +180,11 @@ fn main() {
         }
         ["rings", input, output] => {
             cuts::write(input, output);
+            true
+        }
+        ["expected", file] => {
+            let scenes = std::fs::read(file).expect("the file is read");
+            std::io::Write::write_all(&mut std::io::stdout(), &scenes::expected(&scenes)).expect("it is printed");
             true
         }
         ["serve"] => {

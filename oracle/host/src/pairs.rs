@@ -24,7 +24,7 @@ fn subdivided(r: &mut Random, list: &[P]) -> Vec<P> {
     out
 }
 
-fn two_lists(r: &mut Random) -> (Vec<P>, Vec<P>) {
+pub fn two_lists(r: &mut Random) -> (Vec<P>, Vec<P>) {
     let n = 3 + r.below(8);
     let m = 3 + r.below(8);
     let a = shapes::plain(r, n);

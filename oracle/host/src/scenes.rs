@@ -1,5 +1,6 @@
 //! Runs over scenes: whole ones, and damaged in every way that document 01 names.
 use crate::calls::{Answer, Arg, Call, Export, blank, by_model};
+use crate::pairs::two_lists;
 use crate::port::emulator;
 use crate::random::{P, Random, add, along, bytes, list_bytes, unit};
 use crate::shapes;
@@ -39,6 +40,13 @@ fn records(r: &mut Random) -> Vec<Vec<u8>> {
     let mut out = Vec::new();
     let mut areas: Vec<(u16, Vec<P>)> = Vec::new();
     let mut given = 0;
+    if r.chance(2) {
+        // Two areas that have to do with each other, and their pair both ways round.
+        let (a, b) = two_lists(r);
+        out.extend([area(21, &a), area(22, &b), pair(21, 22), pair(22, 21)]);
+        given = a.len() + b.len();
+        areas.extend([(21, a), (22, b)]);
+    }
     for _ in 0..r.below(40) {
         match r.below(3) {
             0 if areas.len() < most => {
@@ -102,19 +110,67 @@ fn damage(r: &mut Random, records: &mut Vec<Vec<u8>>) {
     records.insert(i, bad);
 }
 
-/// A scene's bytes.
-pub fn scene(r: &mut Random) -> Vec<u8> {
+/// Another value in one field of one record: its length, its kind, an area number or a coordinate.
+fn damage_field(r: &mut Random, b: &mut [u8]) {
+    let kind = b[4];
+    let field = r.below(if b.len() > 8 { 4 } else { 3 });
+    match field {
+        0 => {
+            let len = b.len() as u32 - 6;
+            let v: u32 = *r.pick(&[0, 2, 4, 26, len.wrapping_sub(1), len + 1, len + 24, u32::MAX - 5, u32::MAX]);
+            b[..4].copy_from_slice(&v.to_le_bytes());
+        }
+        1 => b[4..6].copy_from_slice(&r.pick(&[0_u16, 1, 2, 3, 4, 257, 65_535]).to_le_bytes()),
+        2 => b[6..8].copy_from_slice(&r.pick(&[0_u16, 1, 2, 3, 999, 65_535]).to_le_bytes()),
+        _ if kind == 3 => b[8..10].copy_from_slice(&r.pick(&[0_u16, 1, 2, 3, 999, 65_535]).to_le_bytes()),
+        _ => {
+            let at = 8 + 8 * r.below((b.len() - 8) / 8);
+            let x = f64::from_le_bytes(b[at..at + 8].try_into().unwrap());
+            let near = [x + 2.0_f64.powi(-41), x + 2.0_f64.powi(-39), -x, x.next_up()];
+            let v = *r.pick(&[
+                f64::NAN,
+                f64::INFINITY,
+                f64::NEG_INFINITY,
+                -0.0,
+                2.0,
+                1e308,
+                5e-324,
+                near[0],
+                near[1],
+                near[2],
+                near[3],
+            ]);
+            b[at..at + 8].copy_from_slice(&v.to_le_bytes());
+        }
+    }
+}
+
+/// A scene's bytes, and in a word how they were made.
+fn scene(r: &mut Random) -> (&'static str, Vec<u8>) {
     let mut rs = records(r);
-    if r.chance(3) {
+    let mut how = "whole";
+    if r.chance(4) {
         damage(r, &mut rs);
+        how = "with a bad record";
+    } else if !rs.is_empty() && r.chance(4) {
+        let i = r.below(rs.len());
+        damage_field(r, &mut rs[i]);
+        how = "with a field damaged";
     }
     let mut b = rs.concat();
     match r.below(20) {
-        0 => b.truncate(r.below(b.len() + 1)),
-        1 => b.extend(vec![0; 1 + r.below(6)]),
+        0 => {
+            b.truncate(r.below(b.len() + 1));
+            how = "cut short";
+        }
+        1 => {
+            b.extend(vec![0; 1 + r.below(6)]);
+            how = "with bytes after it";
+        }
         2 if !b.is_empty() => {
             let i = r.below(b.len());
             b[i] ^= 1 << r.below(8);
+            how = "with a bit changed";
         }
         3 if r.chance(4) => {
             // At, below and above the most bytes: pairs of one area are 10 bytes each.
@@ -124,13 +180,29 @@ pub fn scene(r: &mut Random) -> Vec<u8> {
                 b.extend(pair(1, 1));
             }
             b.extend(vec![0; size - b.len()]);
+            how = "about as long as may be";
         }
         4 if r.chance(3) => {
             b = (1..=17).flat_map(|k| area(k, &[])).collect();
+            how = "of 17 areas";
         }
         _ => {}
     }
-    b
+    (how, b)
+}
+
+/// Document 01's example cut at every byte, and with each bit of it changed.
+fn every_byte() -> Vec<(&'static str, Vec<u8>)> {
+    let (x, y, z) = ([1.0, 0.0, 0.0], [0.0, 1.0, 0.0], [0.0, 0.0, 1.0]);
+    let places = [place(1, [0.48, 0.6, 0.64]), place(1, [0.6, 0.0, 0.8])].concat();
+    let whole = [area(1, &[x, y, z]), area(2, &[x, y, [0.0, 0.0, -1.0]]), places, pair(1, 2)].concat();
+    let cut = (0..=whole.len()).map(|n| ("the example, cut at every byte", whole[..n].to_vec()));
+    let changed = (0..8 * whole.len()).map(|i| {
+        let mut b = whole.clone();
+        b[i / 8] ^= 1 << (i % 8);
+        ("the example, each bit changed", b)
+    });
+    cut.chain(changed).collect()
 }
 
 /// The program itself, where the export is not there: `target/bin/scene` under the kit's loader.
@@ -186,11 +258,14 @@ fn ending(text: &str) -> String {
 }
 
 pub fn scenes(t: &mut Tally, r: &mut Random, n: usize, root: &Path) {
-    let exported = t.has(Export::Scene);
+    let exported = t.ported() && t.has(Export::Scene);
     let program = Program::find(root);
     let by_program = if exported { n.min(60) } else { n };
+    // The short runs of every change leave the long list out.
+    let fixed = if n < 10_000 { vec![("empty", Vec::new())] } else { every_byte() };
     for i in 0..n {
-        let b = if i == 0 { Vec::new() } else { scene(r) };
+        let (how, b) = fixed.get(i).cloned().unwrap_or_else(|| scene(r));
+        t.note(&format!("scene {how}"));
         let (text, outside) = model::scene::scene(&b);
         t.note(&format!("scene ends in: {}", ending(&text)));
         for line in text.lines() {
@@ -221,4 +296,24 @@ pub fn scenes(t: &mut Tally, r: &mut Random, n: usize, root: &Path) {
             }
         }
     }
+}
+
+/// A part of `scene_runs`' input: its length, then its bytes.
+fn part<'a>(rest: &mut &'a [u8]) -> &'a [u8] {
+    let (head, tail) = rest.split_at(4);
+    let (body, tail) = tail.split_at(u32::from_le_bytes(head.try_into().unwrap()) as usize);
+    *rest = tail;
+    body
+}
+
+/// What `scene_runs` must print for an input of `samples/make.py`, by the model.
+pub fn expected(file: &[u8]) -> Vec<u8> {
+    let (head, mut rest) = file.split_at(4);
+    let mut out = Vec::new();
+    for _ in 0..u32::from_le_bytes(head.try_into().unwrap()) {
+        out.extend(part(&mut rest));
+        out.extend(model::scene::scene(part(&mut rest)).0.into_bytes());
+    }
+    assert!(rest.is_empty(), "bytes after the last scene");
+    out
 }

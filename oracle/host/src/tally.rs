@@ -139,6 +139,11 @@ impl Tally {
         }
     }
 
+    /// Whether calls go to a port.
+    pub fn ported(&self) -> bool {
+        self.port.is_some()
+    }
+
     pub fn has(&mut self, e: Export) -> bool {
         self.port.as_mut().is_none_or(|p| p.has(e))
     }

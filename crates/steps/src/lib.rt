@@ -1,0 +1,333 @@
+// A scene's records taken one by one: what is known between two records, and what each comes to.
+ghost use mathlib.Core.Path.{_≡_};
+ghost use Prim.Native.Nat.{_+_, _*_, _≤_, _<_};
+ghost use lib.ListN.{length, getD};
+ghost use Rattle.ask.specs.Answers.{toldPlaced};
+ghost use Rattle.relate.specs.Relations.{toldRelated};
+ghost use Rattle.store.specs.Store as St;
+ghost use Rattle.steps.specs.Noted as N;
+ghost use Rattle.steps.specs.Steps as S;
+use ask::Placed;
+use build::Built;
+use header::Header;
+use lines::Line;
+use records::Fault;
+use records::Read;
+use relate::Related;
+use store::Area;
+
+// What is known between two records, beside the store.
+pub struct Notes {
+    pub at: usize,
+    pub records: usize,
+    pub met: usize,
+    pub given: usize,
+    pub used: usize,
+    pub areas: [Area; 16],
+}
+
+// Whether an area may come in.
+pub enum Judged {
+    Fine,
+    Bad(Fault),
+}
+
+// What a record comes to: there is none, its fault, a call's own refusal, or its line.
+pub enum Outcome {
+    End,
+    Bad(Fault),
+    Refused(u8),
+    Line(Line),
+}
+
+// The same with the notes after it, which stand beside it since they hold an array.
+pub struct Stepped {
+    pub outcome: Outcome,
+    pub next: Notes,
+}
+
+// The place of a number among the areas met, or how many there are.
+fn index_of(c: Notes, number: usize) -> usize
+    requires { ⌜ N.Kept c ⌝ }
+    ensures { λ r. ⌜ r ≡ N.indexOf (N.areasOf c) number ⌝ }
+    ensures { λ r. ⌜ r ≤ c .met ⌝ }
+{
+    let met = c.met;
+    let areas = c.areas;
+    for i in 0..met {
+        if areas[i].number == number {
+            return i;
+        }
+    }
+    met
+}
+
+fn area_of(c: Notes, i: usize) -> Area
+    requires { ⌜ (i < c .met) × N.Kept c ⌝ }
+    ensures { λ r. ⌜ r ≡ getD (N.areasOf c) i St.nobody ⌝ }
+{
+    let areas = c.areas;
+    areas[i]
+}
+
+// A scene's notes before its first record.
+pub fn fresh() -> Notes
+    ensures { λ r. ⌜ N.Fresh r ⌝ }
+{
+    let nobody = Area {
+        number: 0,
+        start: 0,
+        header: header::empty(),
+    };
+    Notes {
+        at: 0,
+        records: 0,
+        met: 0,
+        given: 0,
+        used: 0,
+        areas: [nobody; 16],
+    }
+}
+
+// The notes after a record of `size` bytes that brought no area.
+fn passed(c: Notes, size: usize) -> Notes
+    requires { ⌜ (c .at + size ≤ 65536) × (c .records ≤ 65536) ⌝ }
+    ensures { λ r. ⌜ r ≡ N.passedNotes c size ⌝ }
+{
+    let areas = c.areas;
+    Notes {
+        at: c.at + size,
+        records: c.records + 1,
+        met: c.met,
+        given: c.given,
+        used: c.used,
+        areas,
+    }
+}
+
+// The notes after an area of `count` given positions.
+fn added(c: Notes, a: Area, count: usize) -> Notes
+    requires { ⌜ N.Addable c a count ⌝ }
+    ensures { λ r. ⌜ r ≡ N.addedNotes c a count ⌝ }
+{
+    let met = c.met;
+    let mut areas = c.areas;
+    let h = a.header;
+    areas[met] = a;
+    Notes {
+        at: c.at + 8 + 24 * count,
+        records: c.records + 1,
+        met: met + 1,
+        given: c.given + count,
+        used: c.used + h.count,
+        areas,
+    }
+}
+
+// Faults of an area record, ahead of the builder's refusals.
+fn judge_area(c: Notes, number: usize, count: usize) -> Judged
+    requires { ⌜ N.Kept c × (c .given ≤ 1024) × (count ≤ 65536) ⌝ }
+    ensures { λ r. ⌜ r ≡ S.judgeArea (N.areasOf c) (c .given) number count ⌝ }
+{
+    if number == 0 {
+        return Judged::Bad(Fault::NoNumber);
+    }
+    if index_of(c, number) < c.met {
+        return Judged::Bad(Fault::Repeated);
+    }
+    if 16 <= c.met {
+        return Judged::Bad(Fault::ManyAreas);
+    }
+    if 1024 < c.given + count {
+        return Judged::Bad(Fault::ManyPositions);
+    }
+    Judged::Fine
+}
+
+// The line of an area that was built, and the notes with it.
+fn area_line(
+    c: Notes,
+    number: usize,
+    count: usize,
+    h: Header,
+    positions: &[f64],
+    normals: &[f64],
+    classes: &[u8],
+) -> Stepped
+    requires { ⌜ St.Lies (N.noted c number h) (now positions) (now normals) (now classes) × N.Addable c (N.noted c number h) count ⌝ }
+    ensures { λ r. ⌜ r ≡ record { outcome = Outcome.Line (Line.Area number h (St.triangleCount (N.noted c number h) (now (positions .entry)) (now (classes .entry)))); next = N.addedNotes c (N.noted c number h) count } ⌝ }
+{
+    let a = Area {
+        number,
+        start: c.used,
+        header: h,
+    };
+    let triangles = store::triangle_count(a, positions, normals, classes);
+    Stepped {
+        outcome: Outcome::Line(Line::Area(number, h, triangles)),
+        next: added(c, a, count),
+    }
+}
+
+// An area that may come in is built; its own refusal ends the scene.
+fn area_made(
+    s: &[u8],
+    c: Notes,
+    number: usize,
+    count: usize,
+    positions: &mut [f64],
+    normals: &mut [f64],
+    classes: &mut [u8],
+) -> Stepped
+    requires { ⌜ S.Ready (now s) c (8 + 24 * count) (now positions) (now normals) (now classes) × (Judged.Fine ≡ S.judgeArea (N.areasOf c) (c .given) number count) ⌝ }
+    ensures { λ r. ⌜ S.toldStep r (now (positions .exit)) (now (normals .exit)) (now (classes .exit)) ≡ S.areaMade (now (s .entry)) (N.view c (now (positions .entry)) (now (normals .entry)) (now (classes .entry))) number count ⌝ }
+    ensures { λ r. ⌜ N.Kept (r .next) ⌝ }
+{
+    match store::build_area(s, c.at + 8, count, c.used, positions, normals, classes) {
+        Built::Refused(k) => Stepped {
+            outcome: Outcome::Refused(k),
+            next: c,
+        },
+        Built::Loop(h) => area_line(c, number, count, h, positions, normals, classes),
+    }
+}
+
+fn area_step(
+    s: &[u8],
+    c: Notes,
+    number: usize,
+    count: usize,
+    positions: &mut [f64],
+    normals: &mut [f64],
+    classes: &mut [u8],
+) -> Stepped
+    requires { ⌜ S.Ready (now s) c (8 + 24 * count) (now positions) (now normals) (now classes) ⌝ }
+    ensures { λ r. ⌜ S.toldStep r (now (positions .exit)) (now (normals .exit)) (now (classes .exit)) ≡ S.areaStep (now (s .entry)) (N.view c (now (positions .entry)) (now (normals .entry)) (now (classes .entry))) number count ⌝ }
+    ensures { λ r. ⌜ N.Kept (r .next) ⌝ }
+{
+    match judge_area(c, number, count) {
+        Judged::Bad(f) => Stepped {
+            outcome: Outcome::Bad(f),
+            next: c,
+        },
+        Judged::Fine => area_made(s, c, number, count, positions, normals, classes),
+    }
+}
+
+// The line of a place, by its answer's number.
+fn place_told(p: Placed, number: usize) -> Outcome
+    ensures { λ r. ⌜ r ≡ S.placeOutcome (toldPlaced p) number ⌝ }
+{
+    match p {
+        Placed::Refused(k) => Outcome::Refused(k),
+        Placed::Outside => Outcome::Line(Line::Place(number, 0)),
+        Placed::Inside => Outcome::Line(Line::Place(number, 1)),
+        Placed::Mute => Outcome::Line(Line::Place(number, 2)),
+    }
+}
+
+fn place_step(
+    s: &[u8],
+    c: Notes,
+    number: usize,
+    positions: &[f64],
+    normals: &[f64],
+    classes: &[u8],
+) -> Stepped
+    requires { ⌜ S.Ready (now s) c 32 (now positions) (now normals) (now classes) ⌝ }
+    ensures { λ r. ⌜ S.toldStep r (now (positions .entry)) (now (normals .entry)) (now (classes .entry)) ≡ S.placeStep (now (s .entry)) (N.view c (now (positions .entry)) (now (normals .entry)) (now (classes .entry))) number ⌝ }
+    ensures { λ r. ⌜ N.Kept (r .next) ⌝ }
+{
+    let i = index_of(c, number);
+    if c.met <= i {
+        return Stepped {
+            outcome: Outcome::Bad(Fault::NotMet),
+            next: c,
+        };
+    }
+    let a = area_of(c, i);
+    let p = wire::vec_at(s, c.at + 8);
+    let placed = store::place_in(a, positions, normals, classes, p);
+    Stepped {
+        outcome: place_told(placed, number),
+        next: passed(c, 32),
+    }
+}
+
+// The line of a pair, by its relation's number.
+fn pair_told(p: Related, number: usize, other: usize) -> Outcome
+    ensures { λ r. ⌜ r ≡ S.pairOutcome (toldRelated p) number other ⌝ }
+{
+    match p {
+        Related::Refused(k) => Outcome::Refused(k),
+        Related::Disjoint => Outcome::Line(Line::Pair(number, other, 0)),
+        Related::Touching => Outcome::Line(Line::Pair(number, other, 1)),
+        Related::Intersecting => Outcome::Line(Line::Pair(number, other, 2)),
+        Related::Containing => Outcome::Line(Line::Pair(number, other, 3)),
+        Related::Within => Outcome::Line(Line::Pair(number, other, 4)),
+        Related::Equal => Outcome::Line(Line::Pair(number, other, 5)),
+    }
+}
+
+fn pair_step(
+    s: &[u8],
+    c: Notes,
+    number: usize,
+    other: usize,
+    positions: &[f64],
+    normals: &[f64],
+    classes: &[u8],
+) -> Stepped
+    requires { ⌜ S.Ready (now s) c 10 (now positions) (now normals) (now classes) ⌝ }
+    ensures { λ r. ⌜ S.toldStep r (now (positions .entry)) (now (normals .entry)) (now (classes .entry)) ≡ S.pairStep (N.view c (now (positions .entry)) (now (normals .entry)) (now (classes .entry))) number other ⌝ }
+    ensures { λ r. ⌜ N.Kept (r .next) ⌝ }
+{
+    let i = index_of(c, number);
+    if c.met <= i {
+        return Stepped {
+            outcome: Outcome::Bad(Fault::NotMet),
+            next: c,
+        };
+    }
+    let j = index_of(c, other);
+    if c.met <= j {
+        return Stepped {
+            outcome: Outcome::Bad(Fault::NotMet),
+            next: c,
+        };
+    }
+    let a = area_of(c, i);
+    let b = area_of(c, j);
+    let related = store::pair_in(a, b, positions, normals, classes);
+    Stepped {
+        outcome: pair_told(related, number, other),
+        next: passed(c, 10),
+    }
+}
+
+// The record at the notes' offset, by its kind.
+pub fn step(
+    s: &[u8],
+    c: Notes,
+    positions: &mut [f64],
+    normals: &mut [f64],
+    classes: &mut [u8],
+) -> Stepped
+    requires { ⌜ S.Ready (now s) c 0 (now positions) (now normals) (now classes) ⌝ }
+    ensures { λ r. ⌜ S.toldStep r (now (positions .exit)) (now (normals .exit)) (now (classes .exit)) ≡ S.step (now (s .entry)) (N.view c (now (positions .entry)) (now (normals .entry)) (now (classes .entry))) ⌝ }
+    ensures { λ r. ⌜ N.Kept (r .next) ⌝ }
+{
+    match records::read_at(s, c.at) {
+        Read::End => Stepped {
+            outcome: Outcome::End,
+            next: c,
+        },
+        Read::Bad(f, _) => Stepped {
+            outcome: Outcome::Bad(f),
+            next: c,
+        },
+        Read::Area(number, count) => { area_step(s, c, number, count, positions, normals, classes) }
+        Read::Place(number) => place_step(s, c, number, positions, normals, classes),
+        Read::Pair(number, other) => pair_step(s, c, number, other, positions, normals, classes),
+    }
+}

@@ -1,0 +1,121 @@
+#!/usr/bin/env python3
+# Makes the scenes of the stored tests, crates/scene_runs/stdin: how many there are, then for each a title and the scene, both with their u32
+# length before them. What they must print, crates/scene_runs/stdout, is what oracle/model says of them, a plain Rust reading of document 01
+# over the unchanged source:  samples/make.py && oracle/target/release/host expected crates/scene_runs/stdin >crates/scene_runs/stdout
+import math
+import os
+import struct
+
+
+def record(kind, body):
+    return struct.pack('<IH', len(body), kind) + body
+
+
+def position(p):
+    return struct.pack('<3d', *p)
+
+
+def area(number, positions):
+    return record(1, struct.pack('<H', number) + b''.join(map(position, positions)))
+
+
+def place(number, p):
+    return record(2, struct.pack('<H', number) + position(p))
+
+
+def pair(a, b):
+    return record(3, struct.pack('<HH', a, b))
+
+
+def join(parts):
+    return b''.join(parts)
+
+
+def unit(x, y, z):
+    n = math.sqrt(x * x + y * y + z * z)
+    return (x / n, y / n, z / n)
+
+
+# n corners round the pole, at a distance r of its tangent plane
+def round_pole(n, r, z=1.0):
+    return [unit(r * math.cos(2 * math.pi * k / n), r * math.sin(2 * math.pi * k / n), z) for k in range(n)]
+
+
+X, Y, Z, W = (1.0, 0.0, 0.0), (0.0, 1.0, 0.0), (0.0, 0.0, 1.0), (0.0, 0.0, -1.0)
+A = area(1, [X, Y, Z])
+NAN = (float('nan'), 0.0, 0.0)
+FAR = (2.0, 0.0, 0.0)
+SQUARE = [(0.6, 0.0, 0.8), (0.0, 0.6, 0.8), (-0.6, 0.0, 0.8), (0.0, -0.6, 0.8)]
+FULL = [X, (0.6, 0.8, 0.0), Y]
+EIGHT = [unit(1, 0.5, 0.5), unit(1, -0.5, -0.5), unit(1, -0.5, 0.5), unit(1, 0.5, -0.5)]
+STAR = [unit(r * math.cos(k * math.pi / 5), r * math.sin(k * math.pi / 5), 1) for k in range(10) for r in [0.5 if k % 2 else 0.1]]
+BESIDE = [unit(a + 0.3, b, 1) for a, b in ((-0.4, -0.4), (0.4, -0.4), (0.4, 0.4), (-0.4, 0.4))]
+# rings at corners of cubes, with and without insides, some of which run out of ears
+D, T = 0.7071067811865475, 0.5773502691896258
+MUTES = [
+    [(-D, D, 0.0), (D, 0.0, -D), (0.0, -D, -D), (-T, -T, -T), Y],
+    [(-T, T, -T), X, (-T, -T, T), (T, -T, T)],
+    [(T, T, T), (T, T, T), W, Z],
+    [X, (0.0, -D, D), (-D, 0.0, D), (D, 0.0, -D)],
+    [(0.0, -D, D), (T, T, -T), (-D, 0.0, -D), (-D, 0.0, -D), (-D, D, 0.0), (D, -D, 0.0)],
+    [(-T, -T, T), (T, -T, T), (-D, 0.0, D), (T, -T, T), (D, -D, 0.0), W],
+]
+SEVEN = area(1, [(-0.8, 0.0, -0.6), X, (0.64, -0.48, 0.6)]) + area(2, [(0.0, -1.0, 0.0), Z, X]) + pair(1, 2)
+# 80 + 2,043 * 32 + 8 * 10 bytes
+LONGEST = A + join(place(1, unit(1, 1, 1)) for _ in range(2043)) + join(pair(1, 1) for _ in range(8))
+assert len(LONGEST) == 65536
+
+scenes = [
+    ('empty input', b''),
+    ("document 01's example", A + area(2, [X, Y, W]) + place(1, (0.48, 0.6, 0.64)) + place(1, (0.6, 0.0, 0.8)) + pair(1, 2)),
+    ('states and marks, and places in them', area(7, SQUARE) + area(8, []) + area(9, [X, Y]) + area(10, FULL) + area(11, [X] * 4)
+     + area(12, EIGHT) + area(13, STAR) + area(65535, SQUARE[::-1] + [SQUARE[-1]])
+     + join(place(n, p) for n in (7, 8, 10, 11, 12, 13, 65535) for p in (Z, W, unit(1, 0.1, 0.1)))),
+    ('mute rings, and rings that cannot be cut', join(area(k + 1, l) for k, l in enumerate(MUTES))
+     + join(place(k + 1, p) for k in range(len(MUTES)) for p in (unit(1, 2, 3), unit(-3, 1, -2)))),
+    ('relations, each area with each', area(1, round_pole(8, 0.5)) + area(2, round_pole(8, 0.2)) + area(3, round_pole(8, 0.5)[::-1])
+     + area(4, round_pole(5, 0.5, -1)) + area(5, BESIDE) + area(6, [X, Y, Z]) + area(7, [X, Y, W]) + area(8, []) + area(9, FULL)
+     + join(pair(a, b) for a in range(1, 10) for b in range(1, 10))),
+    ('refusal 7 of a pair', SEVEN),
+    ('refusal 2: 513 positions, before their NaN', A + area(2, [NAN] * 513) + pair(1, 1)),
+    ('refusal 3 of an area, before 4 of a later position', A + pair(1, 1) + area(2, [X, NAN, FAR]) + pair(1, 1)),
+    ('refusal 4 of an area, before 3 of a later position', area(2, [X, FAR, NAN])),
+    ('refusal 3 of a place', A + place(1, (float('inf'), 0.0, 0.0))),
+    ('refusal 4 of a place', A + place(1, FAR)),
+    ('cut short in its length and kind', A + b'\x04\x00\x00\x00\x03'),
+    ('cut short in its body', A + pair(1, 1)[:-1]),
+    ('cut short: a length near 2^32', A + struct.pack('<IH', 0xFFFFFFFF, 3) + b'\x01\x00\x01\x00'),
+    ('kind 0', A + record(0, b'')),
+    ('kind 4', A + record(4, b'\x01\x00')),
+    ('kind 257', record(257, b'\x01\x00')),
+    ('an area without its number', record(1, b'')),
+    ('an area with 23 bytes of a position', record(1, bytes(25))),
+    ('a place with 23 bytes of a position', A + record(2, bytes(25))),
+    ('a place with 25 bytes of a position', A + record(2, bytes(27))),
+    ('a pair of 3 bytes', A + record(3, b'\x01\x00\x01')),
+    ('a pair of 5 bytes', A + record(3, b'\x01\x00\x01\x00\x01')),
+    ('area number 0', area(0, [X, Y, Z])),
+    ('an area repeated', A + A),
+    ('a place in area 0', A + place(0, Z)),
+    ('a place in an area not yet met, before its NaN', A + place(2, NAN)),
+    ('a pair whose first area is not yet met', A + pair(2, 1)),
+    ('a pair whose second area is not yet met', A + pair(1, 2)),
+    ('16 areas', join(area(k, []) for k in range(1, 17)) + pair(1, 16)),
+    ('17 areas', join(area(k, []) for k in range(1, 18))),
+    ('1,024 positions: places do not count', area(1, [X] * 512) + area(2, [X] * 511) + place(1, X) + place(2, X) + area(3, [X]) + pair(1, 3)),
+    ('1,025 positions', area(1, [X] * 512) + area(2, [X] * 512) + area(3, [X])),
+    ('1,025 positions of one area, before refusal 2', area(1, [NAN] * 1025)),
+    ('512 positions in a list', area(1, round_pole(512, 0.5))),
+    ('513 positions in a list', area(1, round_pole(513, 0.5))),
+    ('65,537 bytes', LONGEST + b'\x00'),
+    ('65,536 bytes', LONGEST),
+]
+
+
+def part(b):
+    return struct.pack('<I', len(b)) + b
+
+
+here = os.path.dirname(os.path.abspath(__file__))
+with open(os.path.join(here, '..', 'crates', 'scene_runs', 'stdin'), 'wb') as f:
+    f.write(struct.pack('<I', len(scenes)) + join(part(f'# {title}\n'.encode()) + part(scene) for title, scene in scenes))

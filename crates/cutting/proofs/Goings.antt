@@ -7,11 +7,13 @@ use native.Mathlib.Omega.{arith}
 use lib.Ieee.{Float}
 use lib.ListN.{length, take, drop, length-append, length-drop}
 use lib.Seq.{sets, sets-eq, length-sets, take-at, take-length, drop-at, drop-drop}
-use Rattle.rings.specs.Ring.{earOf}
+use Rattle.rings.specs.Ring.{without, earOf}
 use Rattle.ears.specs.Ears.{Lent, lowest, cutAt, cutIn}
+use Rattle.ears.specs.Apart.{apartOf}
 use Rattle.cutting.specs.Cutting.{Cutting, ahead, cutting, cuttingFrom, laid}
 use Rattle.cutting.proofs.Turns.{cutting-on, cutting-stuck, cutting-end, whole-three}
-use Rattle.cutting.proofs.Lefts.{left, Held, hold, found, cut-left, cut-held}
+use Rattle.cutting.proofs.Lefts.{left, Held, hold, found, ids-left, cut-left, cut-held}
+use Rattle.cutting.proofs.Lists.{Listing, list, list-on}
 
 -- the triples after one more
 lay : (t : ℕ) (done rest v : List ℕ) → length done ≡ 3 * t → length v ≡ 3 → 3 * (t + 1) ≤ length rest
@@ -25,8 +27,9 @@ lay t done rest v d e h =
 ahead-ahead : (a b : List ℕ) (c : Cutting) → ahead a (ahead b c) ≡ ahead (a ++ b) c
 ahead-ahead a b c = rw append-assoc
 
-pub record Going (ps : List Float) (ids₀ classes₀ tris₀ ids classes tris : List ℕ) (m t : ℕ) : Type 0 where
+pub record Going (ps : List Float) (ids₀ classes₀ apart₀ tris₀ ids classes apart tris : List ℕ) (k m t : ℕ) : Type 0 where
   pub held : Held ps ids₀ classes₀ ids classes m
+  pub listing : Listing apart₀ ids classes apart m k
   pub count : m + t ≡ length ids₀
   pub room : 3 * (length ids₀ - 2) ≤ length tris₀
   pub done : List ℕ
@@ -35,10 +38,11 @@ pub record Going (ps : List Float) (ids₀ classes₀ tris₀ ids classes tris :
   pub tris-size : length tris ≡ length tris₀
   pub rest : cuttingFrom ps (record { ids = ids₀; classes = classes₀ }) ≡ ahead done (cutting ps (m - 3) (left ids classes m))
 
-pub begin : {ps : List Float} {ids classes tris : List ℕ} → Lent ps ids classes → 3 ≤ length ids → 3 * (length ids - 2) ≤ length tris
-    → Going ps ids classes tris ids classes tris (length ids) 0
-begin {ids = ids} l h r = record {
+pub begin : {ps : List Float} {ids classes apart tris : List ℕ} {k : ℕ} → Lent ps ids classes → 3 ≤ length ids → 3 * (length ids - 2) ≤ length tris → length ids ≤ length apart
+    → (take k apart ≡ apartOf ids classes) × (k ≤ length ids) → Going ps ids classes apart tris ids classes apart tris k (length ids) 0
+begin {ids = ids} l h r a q = record {
   held = hold l h;
+  listing = list a q;
   count = omega arith;
   room = r;
   done = [];
@@ -48,7 +52,7 @@ begin {ids = ids} l h r = record {
   rest = rw take-length;
 }
 
-module _ {ps : List Float} {ids₀ classes₀ tris₀ ids classes tris : List ℕ} {m t : ℕ} (g : Going ps ids₀ classes₀ tris₀ ids classes tris m t) where
+module _ {ps : List Float} {ids₀ classes₀ apart₀ tris₀ ids classes apart tris : List ℕ} {k m t : ℕ} (g : Going ps ids₀ classes₀ apart₀ tris₀ ids classes apart tris k m t) where
   -- a turn
   module _ {i : ℕ} (more : 3 < m) (e : i ≡ lowest ps (take m ids) classes) where
     one-less : m - 3 ≡ suc (m - 1 - 3)
@@ -62,13 +66,15 @@ module _ {ps : List Float} {ids₀ classes₀ tris₀ ids classes tris : List �
     -- what the calls of a turn leave
     module _ {ids′ classes′ tris′ part : List ℕ} (ne : i ≡ m → ⊥) (q : ids′ ≡ part ++ drop m ids) (p : record { ids = part; classes = classes′ } ≡ cutIn ps (left ids classes m) i)
         (u : tris′ ≡ sets tris (3 * t) (earOf (take m ids) i)) (kept : length part ≡ length (take m ids)) (also : length classes′ ≡ length classes) where
-      pub cut : Going ps ids₀ classes₀ tris₀ ids′ classes′ tris′ (m - 1) (t + 1)
-      cut =
+      pub cut : {apart′ : List ℕ} {k′ : ℕ} → take k′ apart′ ≡ apartOf (without i (take m ids)) classes′ → k′ ≤ length apart → length apart′ ≡ length apart
+          → Going ps ids₀ classes₀ apart₀ tris₀ ids′ classes′ apart′ tris′ k′ (m - 1) (t + 1)
+      cut l f r =
           let h = found (g .held) e ne in
           let v = earOf (take m ids) i in
           let p′ : i < length (take m ids) = rw (g .held .sized) h in
           record {
             held = cut-held (g .held) h more q p kept also;
+            listing = list-on (g .listing) (ids-left (g .held) h more q p kept also) (omega (arith, g .held .sized, cut-held (g .held) h more q p kept also .sized)) l f r;
             count = omega (arith, g .count);
             room = g .room;
             done = g .done ++ v;

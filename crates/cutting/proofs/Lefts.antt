@@ -1,6 +1,7 @@
 -- What is left of a ring in lent lists: the first m ring numbers, and the classes. Assumes nothing.
 use Prim.Native.Nat.{ℕ, _-_, _≤_, _<_}
 use mathlib.Core.Path.{_≡_, refl, ap, _∙_}
+use mathlib.Core.Bool.{Bool, true, false, _&&_}
 use mathlib.Core.List.{List, _++_, append-assoc}
 use native.Mathlib.Omega.{arith}
 use lib.Ieee.{Float}
@@ -9,8 +10,9 @@ use lib.Seq.{take-at, take-length, length-take-le}
 use Rattle.laws.proofs.Loops.{firstAt-le}
 use Rattle.rings.specs.Ring.{without}
 use Rattle.rings.proofs.Withouts.{length-without}
-use Rattle.ears.specs.Ears.{Lent, ear, lowest, Remaining, cutAt, cutIn}
+use Rattle.ears.specs.Ears.{Lent, convex, ear, lowest, Remaining, cutAt, cutIn}
 use Rattle.ears.proofs.Places.{relent, lent-without}
+use Rattle.cutting.proofs.Firsts.{first-has}
 
 abbrev pub left : List ℕ → List ℕ → ℕ → Remaining
 left ids classes m = record { ids = take m ids; classes = classes }
@@ -26,10 +28,24 @@ pub record Held (ps : List Float) (ids₀ classes₀ ids classes : List ℕ) (m 
 pub hold : {ps : List Float} {ids classes : List ℕ} → Lent ps ids classes → 3 ≤ length ids → Held ps ids classes ids classes (length ids)
 hold {ids = ids} l h = record { least = h; within = omega arith; ids-size = refl; classes-size = refl; sized = rw take-length; lent = rw take-length l }
 
+both-hold : (b c : Bool) → b && c ≡ true → b ≡ true
+both-hold true c e = refl
+both-hold false c e = e
+
+is-convex : (ps : List Float) (ids classes : List ℕ) (i : ℕ) → ear ps ids classes i ≡ true → convex ids classes i ≡ true
+unfolding ear
+is-convex ps ids classes i e = both-hold (convex ids classes i) _ e
+
 module _ {ps : List Float} {ids₀ classes₀ ids classes : List ℕ} {m : ℕ} (g : Held ps ids₀ classes₀ ids classes m) where
   -- a place that is found is at most m, and below it where it is not m
   pub found : {i : ℕ} → i ≡ lowest ps (take m ids) classes → (i ≡ m → ⊥) → i < m
   found e ne = let h = firstAt-le (ear ps (take m ids) classes) (length (take m ids)) 0 in omega (arith, e, h, g .sized, ne)
+
+  -- and convex
+  pub found-convex : {i : ℕ} → i ≡ lowest ps (take m ids) classes → (i ≡ m → ⊥) → convex (take m ids) classes i ≡ true
+  found-convex {i} e ne =
+      let h = found e ne in
+      is-convex ps (take m ids) classes i (rw e (first-has (ear ps (take m ids) classes) (length (take m ids)) 0 (omega (arith, e, h, g .sized))))
 
   -- what a cut at place i leaves
   module _ {i : ℕ} (h : i < m) (more : 3 < m) {ids′ classes′ part : List ℕ} (q : ids′ ≡ part ++ drop m ids)
@@ -37,7 +53,7 @@ module _ {ps : List Float} {ids₀ classes₀ ids classes : List ℕ} {m : ℕ} 
     place : i < length (take m ids)
     place = rw (g .sized) h
 
-    ids-left : take (m - 1) ids′ ≡ without i (take m ids)
+    pub ids-left : take (m - 1) ids′ ≡ without i (take m ids)
     ids-left = rw (q, ap (λ (s : Remaining). s .ids) e, append-assoc (without i (take m ids)) _ _) (take-at (without i (take m ids)) _ (m - 1) (rw (length-without i (take m ids) place, g .sized)))
 
     pub cut-left : left ids′ classes′ (m - 1) ≡ cutAt ps (left ids classes m) i

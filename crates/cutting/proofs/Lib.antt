@@ -1,5 +1,6 @@
 pub mod Firsts
 pub mod Lefts
+pub mod Lists
 pub mod Turns
 pub mod Goings
 pub mod Seekings

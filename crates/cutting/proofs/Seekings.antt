@@ -7,17 +7,19 @@ use native.Mathlib.Omega.{arith}
 use lib.Ieee.{Float}
 use lib.ListN.{length, take, drop}
 use lib.Seq.{take-length}
-use Rattle.rings.specs.Ring.{earOf}
+use Rattle.rings.specs.Ring.{without, earOf}
 use Rattle.vec3.specs.declared.Point.{Point}
 use Rattle.vec3.specs.declared.Point.the-variants.{Absent, At}
 use Rattle.ears.specs.Ears.{Lent, lowest, triangleAt, Remaining, cutAt, cutIn}
+use Rattle.ears.specs.Apart.{apartOf}
 use Rattle.cutting.specs.declared.Found.{Found}
 use Rattle.cutting.specs.declared.Found.the-variants as F
 use Rattle.cutting.specs.declared.Insides.{Insides}
 use Rattle.cutting.specs.Cutting.{wholeRing, cutting}
 use Rattle.cutting.specs.Insides.{withMean, isBoth, meanOf, withMeans, meansFrom, insidesFrom, insidesOf}
 use Rattle.cutting.proofs.Turns.{cutting-on, cutting-stuck, cutting-end, whole-three}
-use Rattle.cutting.proofs.Lefts.{left, Held, hold, found, cut-left, cut-held}
+use Rattle.cutting.proofs.Lefts.{left, Held, hold, found, ids-left, cut-left, cut-held}
+use Rattle.cutting.proofs.Lists.{Listing, list, list-on}
 
 means-none : (ps : List Float) (f : Found) → withMeans ps f [] ≡ f
 unfolding withMeans
@@ -45,14 +47,16 @@ stays ps F.Nothing l e = absurd (true≢false (sym e))
 stays ps (F.One a) l e = absurd (true≢false (sym e))
 stays ps (F.Both a b) l e = enough ps a b l
 
-pub record Seeking (ps : List Float) (ids₀ classes₀ ids classes : List ℕ) (m : ℕ) (f : Found) : Type 0 where
+pub record Seeking (ps : List Float) (ids₀ classes₀ apart₀ ids classes apart : List ℕ) (k m : ℕ) (f : Found) : Type 0 where
   pub held : Held ps ids₀ classes₀ ids classes m
+  pub listing : Listing apart₀ ids classes apart m k
   pub rest : meansFrom ps (record { ids = ids₀; classes = classes₀ }) ≡ withMeans ps f (cutting ps (m - 3) (left ids classes m) .triangles)
 
-pub begin : {ps : List Float} {ids classes : List ℕ} → Lent ps ids classes → 3 ≤ length ids → Seeking ps ids classes ids classes (length ids) F.Nothing
-begin l h = record { held = hold l h; rest = rw take-length }
+pub begin : {ps : List Float} {ids classes apart : List ℕ} {k : ℕ} → Lent ps ids classes → 3 ≤ length ids → length ids ≤ length apart
+    → (take k apart ≡ apartOf ids classes) × (k ≤ length ids) → Seeking ps ids classes apart ids classes apart k (length ids) F.Nothing
+begin l h a q = record { held = hold l h; listing = list a q; rest = rw take-length }
 
-module _ {ps : List Float} {ids₀ classes₀ ids classes : List ℕ} {m : ℕ} {f : Found} (g : Seeking ps ids₀ classes₀ ids classes m f) where
+module _ {ps : List Float} {ids₀ classes₀ apart₀ ids classes apart : List ℕ} {k m : ℕ} {f : Found} (g : Seeking ps ids₀ classes₀ apart₀ ids classes apart k m f) where
   module _ {i : ℕ} (more : 3 < m) (e : i ≡ lowest ps (take m ids) classes) where
     one-less : m - 3 ≡ suc (m - 1 - 3)
     one-less = omega arith
@@ -74,10 +78,11 @@ module _ {ps : List Float} {ids₀ classes₀ ids classes : List ℕ} {m : ℕ} 
 
       module _ {ids′ classes′ part : List ℕ} (q : ids′ ≡ part ++ drop m ids) (p : record { ids = part; classes = classes′ } ≡ cutIn ps (left ids classes m) i)
           (kept : length part ≡ length (take m ids)) (also : length classes′ ≡ length classes) where
-        pub cut : Seeking ps ids₀ classes₀ ids′ classes′ (m - 1) f′
-        cut =
+        pub cut : {apart′ : List ℕ} {k′ : ℕ} → take k′ apart′ ≡ apartOf (without i (take m ids)) classes′ → k′ ≤ length apart → length apart′ ≡ length apart
+            → Seeking ps ids₀ classes₀ apart₀ ids′ classes′ apart′ k′ (m - 1) f′
+        cut l o r =
             let h = found (g .held) e ne in
-            record { held = cut-held (g .held) h more q p kept also; rest = rw (cut-left (g .held) h more q p kept also) on }
+            record { held = cut-held (g .held) h more q p kept also; listing = list-on (g .listing) (ids-left (g .held) h more q p kept also) (omega (arith, g .held .sized, cut-held (g .held) h more q p kept also .sized)) l o r; rest = rw (cut-left (g .held) h more q p kept also) on }
 
   -- the mean of the last triangle
   pub finish : {f′ : Found} → m ≤ 3 → f′ ≡ withMean f (meanOf (triangleAt ps (take m ids) 1)) → f′ ≡ meansFrom ps (record { ids = ids₀; classes = classes₀ })

@@ -1,5 +1,6 @@
 // Cutting a ring ear by ear, as sloop.rs has it: into triangles of ring numbers, for two positions inside it, and along a list that is to be checked.
-// Work arrays of 512 entries hold the ring numbers and the classes of the ring left. Total on every float.
+// Work arrays of 512 entries, of 16 for a small ring, hold the ring numbers and the classes of the ring left, and the numbers of the corners that are not
+// convex. Total on every float.
 ghost use mathlib.Core.Path.{_≡_};
 ghost use mathlib.Core.List.{_++_};
 ghost use Prim.Native.Nat.{_+_, _-_, _*_, _≤_, _<_};
@@ -68,19 +69,26 @@ fn put_ear(ids: &[u16], i: usize, triangles: &mut [u16], t: usize)
 }
 
 // Cuts the lowest ear each time until three are left, and lays the triangles one after the other. False where a ring above three has no ear.
-fn cut_all(ps: &[f64], ids: &mut [u16], classes: &mut [u8], triangles: &mut [u16]) -> bool
-    requires { ⌜ Lent (now ps) (now ids) (now classes) × (3 ≤ length (now ids)) × (3 * (length (now ids) - 2) ≤ length (now triangles)) ⌝ }
+fn cut_all(
+    ps: &[f64],
+    ids: &mut [u16],
+    classes: &mut [u8],
+    apart: &mut [u16],
+    triangles: &mut [u16],
+) -> bool
+    requires { ⌜ Lent (now ps) (now ids) (now classes) × (3 ≤ length (now ids)) × (length (now ids) ≤ length (now apart)) × (3 * (length (now ids) - 2) ≤ length (now triangles)) ⌝ }
     ensures { λ r. ⌜ record { answer = r; out = now (triangles .exit) } ≡ laid (cuttingFrom (now (ps .entry)) (record { ids = now (ids .entry); classes = now (classes .entry) })) (now (triangles .entry)) ⌝ }
 {
+    let mut k = ears::list_apart(ids, classes, apart);
     let mut m = ids.len();
     let mut t = 0;
     while 3 < m {
-        let i = ears::lowest_ear(ps, &ids[..m], classes);
+        let i = ears::lowest_ear(ps, &ids[..m], classes, &apart[..k]);
         if i == m {
             return false;
         }
         put_ear(&ids[..m], i, triangles, t);
-        ears::cut_one(ps, &mut ids[..m], classes, i);
+        k = ears::cut_apart(ps, &mut ids[..m], classes, apart, k, i);
         m -= 1;
         t += 1;
     }
@@ -103,18 +111,63 @@ fn cut_ring_in(
     classes: &[u8],
     ids: &mut [u16],
     work: &mut [u8],
+    apart: &mut [u16],
     triangles: &mut [u16],
     out: &mut [u16],
 ) -> bool
-    requires { ⌜ Work (now ps) (now classes) (now ids) (now work) × (length (now triangles) ≡ 3 * (length (now classes) - 2)) × (3 * (length (now classes) - 2) ≤ length (now out)) ⌝ }
+    requires { ⌜ Work (now ps) (now classes) (now ids) (now work) × (length (now apart) ≡ length (now classes)) × (length (now triangles) ≡ 3 * (length (now classes) - 2)) × (3 * (length (now classes) - 2) ≤ length (now out)) ⌝ }
     ensures { λ r. ⌜ record { answer = r; out = now (out .exit) } ≡ outOf (now (ps .entry)) (now (classes .entry)) (now (out .entry)) ⌝ }
 {
     start(classes, ids, work);
-    if cut_all(ps, ids, work, triangles) {
+    if cut_all(ps, ids, work, apart, triangles) {
         copy_numbers(triangles, out);
         return true;
     }
     false
+}
+
+// `cut_ring` with work arrays for every ring.
+fn cut_large(positions: &[f64], classes: &[u8], out: &mut [u16]) -> bool
+    requires { ⌜ Ring (now positions) (now classes) × (3 * (length (now classes) - 2) ≤ length (now out)) ⌝ }
+    ensures { λ r. ⌜ record { answer = r; out = now (out .exit) } ≡ outOf (now (positions .entry)) (now (classes .entry)) (now (out .entry)) ⌝ }
+{
+    let n = classes.len();
+    let size = 3 * (n - 2);
+    let mut ids = [0u16; 512];
+    let mut work = [0u8; 512];
+    let mut apart = [0u16; 512];
+    let mut triangles = [0u16; 1530];
+    cut_ring_in(
+        positions,
+        classes,
+        &mut ids[..n],
+        &mut work[..n],
+        &mut apart[..n],
+        &mut triangles[..size],
+        out,
+    )
+}
+
+// `cut_ring` with small work arrays, as clearing large ones would cost a small ring more than its cuts.
+fn cut_small(positions: &[f64], classes: &[u8], out: &mut [u16]) -> bool
+    requires { ⌜ Ring (now positions) (now classes) × (3 * (length (now classes) - 2) ≤ length (now out)) × (length (now classes) ≤ 16) ⌝ }
+    ensures { λ r. ⌜ record { answer = r; out = now (out .exit) } ≡ outOf (now (positions .entry)) (now (classes .entry)) (now (out .entry)) ⌝ }
+{
+    let n = classes.len();
+    let size = 3 * (n - 2);
+    let mut ids = [0u16; 16];
+    let mut work = [0u8; 16];
+    let mut apart = [0u16; 16];
+    let mut triangles = [0u16; 42];
+    cut_ring_in(
+        positions,
+        classes,
+        &mut ids[..n],
+        &mut work[..n],
+        &mut apart[..n],
+        &mut triangles[..size],
+        out,
+    )
 }
 
 // Cuts a ring into triangles, the lowest ear each time. True: they stand first in `out`, and the rest of it is kept. False: a ring above three has no
@@ -123,19 +176,10 @@ pub fn cut_ring(positions: &[f64], classes: &[u8], out: &mut [u16]) -> bool
     requires { ⌜ Ring (now positions) (now classes) × (3 * (length (now classes) - 2) ≤ length (now out)) ⌝ }
     ensures { λ r. ⌜ record { answer = r; out = now (out .exit) } ≡ outOf (now (positions .entry)) (now (classes .entry)) (now (out .entry)) ⌝ }
 {
-    let n = classes.len();
-    let size = 3 * (n - 2);
-    let mut ids = [0u16; 512];
-    let mut work = [0u8; 512];
-    let mut triangles = [0u16; 1530];
-    cut_ring_in(
-        positions,
-        classes,
-        &mut ids[..n],
-        &mut work[..n],
-        &mut triangles[..size],
-        out,
-    )
+    if classes.len() <= 16 {
+        return cut_small(positions, classes, out);
+    }
+    cut_large(positions, classes, out)
 }
 
 fn with_position(f: Found, p: Vec3) -> Found
@@ -188,14 +232,15 @@ fn mean_at(ps: &[f64], ids: &[u16], i: usize) -> Point
 }
 
 // Cuts the lowest ear each time until two means are found, three are left, or there is no ear.
-fn find_means(ps: &[f64], ids: &mut [u16], classes: &mut [u8]) -> Found
-    requires { ⌜ Lent (now ps) (now ids) (now classes) × (3 ≤ length (now ids)) ⌝ }
+fn find_means(ps: &[f64], ids: &mut [u16], classes: &mut [u8], apart: &mut [u16]) -> Found
+    requires { ⌜ Lent (now ps) (now ids) (now classes) × (3 ≤ length (now ids)) × (length (now ids) ≤ length (now apart)) ⌝ }
     ensures { λ r. ⌜ r ≡ meansFrom (now (ps .entry)) (record { ids = now (ids .entry); classes = now (classes .entry) }) ⌝ }
 {
+    let mut k = ears::list_apart(ids, classes, apart);
     let mut m = ids.len();
     let mut f = Found::Nothing;
     while 3 < m {
-        let i = ears::lowest_ear(ps, &ids[..m], classes);
+        let i = ears::lowest_ear(ps, &ids[..m], classes, &apart[..k]);
         if i == m {
             return f;
         }
@@ -203,19 +248,61 @@ fn find_means(ps: &[f64], ids: &mut [u16], classes: &mut [u8]) -> Found
         if is_both(f) {
             return f;
         }
-        ears::cut_one(ps, &mut ids[..m], classes, i);
+        k = ears::cut_apart(ps, &mut ids[..m], classes, apart, k, i);
         m -= 1;
     }
     with_mean(f, mean_at(ps, &ids[..m], 1))
 }
 
 // `find_insides` with its work places.
-fn find_insides_in(ps: &[f64], classes: &[u8], ids: &mut [u16], work: &mut [u8]) -> Insides
-    requires { ⌜ Work (now ps) (now classes) (now ids) (now work) ⌝ }
+fn find_insides_in(
+    ps: &[f64],
+    classes: &[u8],
+    ids: &mut [u16],
+    work: &mut [u8],
+    apart: &mut [u16],
+) -> Insides
+    requires { ⌜ Work (now ps) (now classes) (now ids) (now work) × (length (now apart) ≡ length (now classes)) ⌝ }
     ensures { λ r. ⌜ r ≡ insidesOf (now (ps .entry)) (now (classes .entry)) ⌝ }
 {
     start(classes, ids, work);
-    insides_from(find_means(ps, ids, work))
+    insides_from(find_means(ps, ids, work, apart))
+}
+
+// `find_insides` with work arrays for every ring.
+fn find_large(positions: &[f64], classes: &[u8]) -> Insides
+    requires { ⌜ Ring (now positions) (now classes) ⌝ }
+    ensures { λ r. ⌜ r ≡ insidesOf (now (positions .entry)) (now (classes .entry)) ⌝ }
+{
+    let n = classes.len();
+    let mut ids = [0u16; 512];
+    let mut work = [0u8; 512];
+    let mut apart = [0u16; 512];
+    find_insides_in(
+        positions,
+        classes,
+        &mut ids[..n],
+        &mut work[..n],
+        &mut apart[..n],
+    )
+}
+
+// `find_insides` with small work arrays.
+fn find_small(positions: &[f64], classes: &[u8]) -> Insides
+    requires { ⌜ Ring (now positions) (now classes) × (length (now classes) ≤ 16) ⌝ }
+    ensures { λ r. ⌜ r ≡ insidesOf (now (positions .entry)) (now (classes .entry)) ⌝ }
+{
+    let n = classes.len();
+    let mut ids = [0u16; 16];
+    let mut work = [0u8; 16];
+    let mut apart = [0u16; 16];
+    find_insides_in(
+        positions,
+        classes,
+        &mut ids[..n],
+        &mut work[..n],
+        &mut apart[..n],
+    )
 }
 
 // The means of the first two cuts of a ring that have one, the last triangle included; without two, none.
@@ -223,8 +310,8 @@ pub fn find_insides(positions: &[f64], classes: &[u8]) -> Insides
     requires { ⌜ Ring (now positions) (now classes) ⌝ }
     ensures { λ r. ⌜ r ≡ insidesOf (now (positions .entry)) (now (classes .entry)) ⌝ }
 {
-    let n = classes.len();
-    let mut ids = [0u16; 512];
-    let mut work = [0u8; 512];
-    find_insides_in(positions, classes, &mut ids[..n], &mut work[..n])
+    if classes.len() <= 16 {
+        return find_small(positions, classes);
+    }
+    find_large(positions, classes)
 }

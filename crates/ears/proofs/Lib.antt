@@ -1,2 +1,5 @@
 pub mod Places
 pub mod Nest
+pub mod Aparts
+pub mod Cuts
+pub mod Fars

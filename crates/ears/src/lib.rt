@@ -3,10 +3,12 @@
 ghost use mathlib.Core.Path.{_≡_};
 ghost use mathlib.Core.List.{_++_};
 ghost use Prim.Native.Nat.{_+_, _-_, _*_, _%_, _≤_, _<_};
-ghost use lib.ListN.{length, getD, drop};
-ghost use Rattle.rings.specs.Ring.{without};
+ghost use mathlib.Core.Bool.{true};
+ghost use lib.ListN.{length, getD, take, drop};
+ghost use Rattle.rings.specs.Ring.{Below, without};
 ghost use Rattle.ears.specs.Inside.{isRight, collinears, fits, edgeSide, fitsEdges, isCorner, insideOrEdge};
 ghost use Rattle.ears.specs.Ears.{Lent, corner, convex, triangleAt, Placed, blocks, blocked, ear, lowest, classOf, turnOf, reclass, recut, cutIn};
+ghost use Rattle.ears.specs.Apart.{pastIf, apartOf, holds, held, farNormal, unlike, turned, returned};
 use base::Side;
 use vec3::Vec3;
 
@@ -85,19 +87,27 @@ pub fn inside_or_edge(p: Vec3, a: Vec3, b: Vec3, c: Vec3) -> bool
     edges_fit(clockwise, p, a, b, c)
 }
 
+// Place m of m is the first. By comparison, as a division costs more than the rest of a cut.
+fn wrapped(m: usize, i: usize) -> usize
+    requires { ⌜ (0 < m) × (i ≤ m) ⌝ }
+    ensures { λ r. ⌜ (r ≡ i % m) × (r < m) ⌝ }
+{
+    if i == m { 0 } else { i }
+}
+
 // The places before and after place i of m, counted round.
 pub fn prior(m: usize, i: usize) -> usize
     requires { ⌜ (i < m) × (m ≤ 512) ⌝ }
     ensures { λ r. ⌜ (r ≡ (i + m - 1) % m) × (r < m) ⌝ }
 {
-    (i + m - 1) % m
+    if i == 0 { m - 1 } else { i - 1 }
 }
 
 pub fn later(m: usize, i: usize) -> usize
     requires { ⌜ (i < m) × (m ≤ 512) ⌝ }
     ensures { λ r. ⌜ (r ≡ (i + 1) % m) × (r < m) ⌝ }
 {
-    (i + 1) % m
+    wrapped(m, i + 1)
 }
 
 // The position of the corner at place i.
@@ -164,17 +174,89 @@ pub fn is_ear(ps: &[f64], ids: &[u16], classes: &[u8], i: usize) -> bool
     false
 }
 
-// The lowest eligible ear; the number of places if there is none.
-pub fn lowest_ear(ps: &[f64], ids: &[u16], classes: &[u8]) -> usize
-    requires { ⌜ Lent (now ps) (now ids) (now classes) ⌝ }
+// The normal of the triangle's edge from its last corner to its first, turned as the triangle's sides are read.
+fn far_normal(t: Triangle) -> Vec3
+    ensures { λ r. ⌜ r ≡ farNormal t ⌝ }
+{
+    if is_right(base::side_of(t.previous, t.this, t.next)) {
+        t.previous.cross_prod(t.next)
+    } else {
+        t.next.cross_prod(t.previous)
+    }
+}
+
+// Whether the corner at place j is inside the triangle or on an edge of it. Most are beyond its far edge, which one product tells.
+fn is_held(ps: &[f64], apart: &[u16], t: Triangle, normal: Vec3, j: usize) -> bool
+    requires { ⌜ (normal ≡ farNormal t) × (j < length (now apart)) × (3 * getD (now apart) j 0 + 2 < length (now ps)) ⌝ }
+    ensures { λ r. ⌜ r ≡ holds (now (ps .entry)) (now (apart .entry)) t j ⌝ }
+{
+    let p = corner_at(ps, apart, j);
+    if base::is_surely_right(p, normal) {
+        return false;
+    }
+    inside_or_edge(p, t.previous, t.this, t.next)
+}
+
+// Whether one of those listed is.
+fn is_one_held(ps: &[f64], apart: &[u16], t: Triangle) -> bool
+    requires { ⌜ Placed (now ps) (now apart) × (length (now apart) ≤ 512) ⌝ }
+    ensures { λ r. ⌜ r ≡ held (now (ps .entry)) (now (apart .entry)) t ⌝ }
+{
+    let normal = far_normal(t);
+    for j in 0..apart.len() {
+        if is_held(ps, apart, t, normal, j) {
+            return true;
+        }
+    }
+    false
+}
+
+// Whether place i is an eligible ear, where `apart` lists the corners that are not convex.
+fn is_free(ps: &[f64], ids: &[u16], classes: &[u8], apart: &[u16], i: usize) -> bool
+    requires { ⌜ Lent (now ps) (now ids) (now classes) × (now apart ≡ apartOf (now ids) (now classes)) × (i < length (now ids)) ⌝ }
+    ensures { λ r. ⌜ r ≡ ear (now (ps .entry)) (now (ids .entry)) (now (classes .entry)) i ⌝ }
+{
+    if is_convex(ids, classes, i) {
+        if apart.len() == 0 {
+            return true;
+        }
+        return !is_one_held(ps, apart, triangle_at(ps, ids, i));
+    }
+    false
+}
+
+// The lowest eligible ear, where `apart` lists the corners that are not convex; the number of places if there is none.
+pub fn lowest_ear(ps: &[f64], ids: &[u16], classes: &[u8], apart: &[u16]) -> usize
+    requires { ⌜ Lent (now ps) (now ids) (now classes) × (now apart ≡ apartOf (now ids) (now classes)) ⌝ }
     ensures { λ r. ⌜ r ≡ lowest (now (ps .entry)) (now (ids .entry)) (now (classes .entry)) ⌝ }
 {
     for i in 0..ids.len() {
-        if is_ear(ps, ids, classes, i) {
+        if is_free(ps, ids, classes, apart, i) {
             return i;
         }
     }
     ids.len()
+}
+
+// How many are listed with one more, unless that is convex.
+fn past(k: usize, passed: bool) -> usize
+    requires { ⌜ k ≤ 512 ⌝ }
+    ensures { λ r. ⌜ r ≡ pastIf passed k ⌝ }
+{
+    if passed { k } else { k + 1 }
+}
+
+// Lists the corners that are not convex, by number, from the front of `apart` on; how many they are.
+pub fn list_apart(ids: &[u16], classes: &[u8], apart: &mut [u16]) -> usize
+    requires { ⌜ Below (length (now classes)) (now ids) × (length (now ids) ≤ length (now apart)) × (length (now ids) ≤ 512) ⌝ }
+    ensures { λ r. ⌜ (take r (now (apart .exit)) ≡ apartOf (now (ids .entry)) (now (classes .entry))) × (r ≤ length (now (ids .entry))) ⌝ }
+{
+    let mut k = 0;
+    for j in 0..ids.len() {
+        apart[k] = ids[j];
+        k = past(k, is_convex(ids, classes, j));
+    }
+    k
 }
 
 // Takes the number at place i out; the last place keeps its own.
@@ -206,34 +288,73 @@ fn side_at(ps: &[f64], ids: &[u16], i: usize) -> Side
     base::side_of(t.previous, t.this, t.next)
 }
 
-// Classes the corner at place i afresh.
-fn reclassify(ps: &[f64], ids: &[u16], classes: &mut [u8], i: usize)
-    requires { ⌜ Lent (now ps) (now ids) (now classes) × (i < length (now ids)) ⌝ }
-    ensures { λ _. ⌜ now (classes .exit) ≡ reclass (now (ps .entry)) (now (ids .entry)) i (now (classes .entry)) ⌝ }
+fn differ(a: bool, b: bool) -> bool
+    ensures { λ r. ⌜ r ≡ unlike a b ⌝ }
 {
-    let s = side_at(ps, ids, i);
-    let k = ids[i] as usize;
-    classes[k] = class_of(s);
+    if a { !b } else { b }
 }
 
-// Classes the two neighbours of a corner that was cut off at place i afresh, if more than three are left.
-fn reclassify_both(ps: &[f64], ids: &[u16], classes: &mut [u8], i: usize)
+// Classes the corner at place i afresh; whether it was convex and is not, or the other way round.
+fn reclassify(ps: &[f64], ids: &[u16], classes: &mut [u8], i: usize) -> bool
+    requires { ⌜ Lent (now ps) (now ids) (now classes) × (i < length (now ids)) ⌝ }
+    ensures { λ r. ⌜ (now (classes .exit) ≡ reclass (now (ps .entry)) (now (ids .entry)) i (now (classes .entry))) × (r ≡ turned (now (ps .entry)) (now (ids .entry)) i (now (classes .entry))) ⌝ }
+{
+    let c = class_of(side_at(ps, ids, i));
+    let was = is_convex(ids, classes, i);
+    let k = ids[i] as usize;
+    classes[k] = c;
+    differ(was, c == 0)
+}
+
+// Classes the two neighbours of a corner that was cut off at place i afresh, if more than three are left; whether one of them was convex and is not, or
+// the other way round.
+fn reclassify_both(ps: &[f64], ids: &[u16], classes: &mut [u8], i: usize) -> bool
     requires { ⌜ Lent (now ps) (now ids) (now classes) × (i ≤ length (now ids)) ⌝ }
-    ensures { λ _. ⌜ now (classes .exit) ≡ recut (now (ps .entry)) (now (ids .entry)) i (now (classes .entry)) ⌝ }
+    ensures { λ r. ⌜ (now (classes .exit) ≡ recut (now (ps .entry)) (now (ids .entry)) i (now (classes .entry))) × (r ≡ returned (now (ps .entry)) (now (ids .entry)) i (now (classes .entry))) ⌝ }
 {
     let m = ids.len();
     if 3 < m {
-        reclassify(ps, ids, classes, i % m);
-        reclassify(ps, ids, classes, (i + m - 1) % m);
+        let next = wrapped(m, i);
+        let a = reclassify(ps, ids, classes, next);
+        let b = reclassify(ps, ids, classes, prior(m, next));
+        return a | b;
     }
+    false
 }
 
-// Cuts the corner at place i off: its number goes, and the last place keeps its own.
+// Cuts the corner at place i off: its number goes, and the last place keeps its own. Whether a neighbour was convex and is not, or the other way round.
+fn cut_told(ps: &[f64], ids: &mut [u16], classes: &mut [u8], i: usize) -> bool
+    requires { ⌜ Lent (now ps) (now ids) (now classes) × (i < length (now ids)) ⌝ }
+    ensures { λ r. ⌜ (record { ids = now (ids .exit); classes = now (classes .exit) } ≡ cutIn (now (ps .entry)) (record { ids = now (ids .entry); classes = now (classes .entry) }) i) × (r ≡ returned (now (ps .entry)) (without i (now (ids .entry))) i (now (classes .entry))) ⌝ }
+{
+    remove_at(ids, i);
+    let m = ids.len() - 1;
+    reclassify_both(ps, &ids[..m], classes, i)
+}
+
+// Cuts the corner at place i off.
 pub fn cut_one(ps: &[f64], ids: &mut [u16], classes: &mut [u8], i: usize)
     requires { ⌜ Lent (now ps) (now ids) (now classes) × (i < length (now ids)) ⌝ }
     ensures { λ _. ⌜ record { ids = now (ids .exit); classes = now (classes .exit) } ≡ cutIn (now (ps .entry)) (record { ids = now (ids .entry); classes = now (classes .entry) }) i ⌝ }
 {
-    remove_at(ids, i);
+    let told = cut_told(ps, ids, classes, i);
+}
+
+// Cuts a convex corner off and keeps the list of those that are not convex, the first k of `apart`; how many these then are.
+pub fn cut_apart(
+    ps: &[f64],
+    ids: &mut [u16],
+    classes: &mut [u8],
+    apart: &mut [u16],
+    k: usize,
+    i: usize,
+) -> usize
+    requires { ⌜ Lent (now ps) (now ids) (now classes) × (i < length (now ids)) × (convex (now ids) (now classes) i ≡ true) × (take k (now apart) ≡ apartOf (now ids) (now classes)) × (k ≤ length (now apart)) × (length (now ids) ≤ length (now apart)) ⌝ }
+    ensures { λ r. ⌜ (record { ids = now (ids .exit); classes = now (classes .exit) } ≡ cutIn (now (ps .entry)) (record { ids = now (ids .entry); classes = now (classes .entry) }) i) × (take r (now (apart .exit)) ≡ apartOf (without i (now (ids .entry))) (now (classes .exit))) × (r ≤ length (now (apart .entry))) ⌝ }
+{
     let m = ids.len() - 1;
-    reclassify_both(ps, &ids[..m], classes, i);
+    if cut_told(ps, ids, classes, i) {
+        return list_apart(&ids[..m], classes, apart);
+    }
+    k
 }

@@ -1,8 +1,3 @@
-use native.Mathlib.Omega.{arith}
-use mathlib.Core.Path.{sym}
-use lib.Seq.{length-take-le}
-use Rattle.rings.proofs.Withouts.{taken}
-use Rattle.ears.proofs.Places.{lent-without}
 use borrow.Author.Needs.{needs}
 use Rattle.ears.proofs.cut_one.Statement.{statement}
 use Rattle.ears.proofs.cut_one.Tie as tie
@@ -12,7 +7,4 @@ cut-one-spec =
     tie.close
     (tie.spec
     (λ c κs. search needs) (λ c. search needs) (λ c. search needs)
-    (λ c. sym (length-take-le _ _ (omega arith)))
-    (λ c κs. rw (taken _ _ (c .before .before .before .before .before .before .before .before .before .pre .1) _ (c .before .before .before .before .remove-at .kept .0) (c .before .before .before .before .remove-at .ensures)) (lent-without (c .before .before .before .before .before .before .before .before .before .pre .0) (c .before .before .before .before .before .before .before .before .before .pre .1)))
-    (λ c. search needs) (λ c. search needs)
-    (λ c. rw (c .before .before .reclassify-both .ensures, taken _ _ (c .before .before .before .before .before .before .before .before .before .before .before .before .pre .1) _ (c .before .before .before .before .before .before .before .remove-at .kept .0) (c .before .before .before .before .before .before .before .remove-at .ensures), c .before .before .before .before .before .before .before .remove-at .ensures)))
+    (λ c. c .before .before .before .before .cut-told .ensures .0))

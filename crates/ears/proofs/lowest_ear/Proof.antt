@@ -7,10 +7,10 @@ use Rattle.ears.proofs.lowest_ear.Statement.{statement}
 use Rattle.ears.proofs.lowest_ear.Tie as tie
 
 abbrev Inv-loop : tie.InvT-loop
-Inv-loop ps ids classes i₀ i-end i = Look (ear ps ids classes) (length ids) i (lowest ps ids classes)
+Inv-loop ps ids classes apart i₀ i-end i = Look (ear ps ids classes) (length ids) i (lowest ps ids classes)
 
 abbrev μ-loop : tie.MeasureT-loop
-μ-loop ps ids classes i₀ i-end i = length ids - i
+μ-loop ps ids classes apart i₀ i-end i = length ids - i
 
 pub lowest-ear-spec : {M : Type 1} → statement M
 lowest-ear-spec =

@@ -1,19 +1,22 @@
 use native.Mathlib.Omega.{arith}
 use Rattle.ears.proofs.Places.{placed}
 use Rattle.ears.specs.Ears.{reclass}
+use Rattle.ears.specs.Apart.{turned}
 use borrow.Author.Needs.{needs}
 use Rattle.ears.proofs.reclassify.Statement.{statement}
 use Rattle.ears.proofs.reclassify.Tie as tie
 
 pub reclassify-spec : {M : Type 1} → statement M
-unfolding reclass
+unfolding reclass turned
 reclassify-spec =
     tie.close
     (tie.spec
     (λ c κs. (placed (c .before .before .before .pre .0), c .before .before .before .pre .1, c .before .before .before .pre .0 .few))
-    (λ c. search needs) (λ c. search needs)
-    (λ c. omega (arith, c .shared-slice-known3 .given (c .before .before .before .before .before .args .i)))
     (λ c κs. search needs)
-    (λ c. c .before .before .before .before .before .before .pre .0 .below _ (c .before .before .before .before .before .before .pre .1))
+    (λ c κs. (c .before .before .before .before .before .before .pre .1, c .before .before .before .before .before .before .pre .0 .below _ (c .before .before .before .before .before .before .pre .1)))
+    (λ c. search needs) (λ c. search needs)
+    (λ c. omega (arith, c .shared-slice-known3 .given (c .before .before .before .before .before .before .before .before .args .i)))
+    (λ c. c .before .before .before .before .before .before .before .before .pre .0 .below _ (c .before .before .before .before .before .before .before .before .pre .1))
+    (λ c κs. search needs)
     (λ c. search needs)
-    (λ c. simp (c .class-of .ensures, c .before .before .side-at .ensures)))
+    (λ c. (simp (c .before .before .before .before .class-of .ensures, c .before .before .before .before .before .side-at .ensures), simp (c .differ .ensures, c .before .before .is-convex .ensures, c .before .before .before .before .class-of .ensures, c .before .before .before .before .before .side-at .ensures))))

@@ -1,6 +1,7 @@
 -- The side of v0 against the great circle from v1 to v2. Document 01, "Side": "t = v0·(v1×v2). If |t| is at most 10·2^-52, inclusive, the sign of
 -- v0·(`orthogonal_to` of v1, v2) decides, and within 2^-52 of zero it is collinear. Otherwise the sign of t decides. Positive is left." Definitions only.
 use Prim.Native.Nat.{ℕ}
+use mathlib.Core.Bool.{Bool, not, _&&_}
 use lib.Ieee.{Float, lt, le}
 use Rattle.numbers.specs.Choice.{if_then_else_}
 use Rattle.numbers.specs.F64.{zero, ten-epsilon}
@@ -22,3 +23,10 @@ unfoldable pub sideOf : Vec3 → Vec3 → Vec3 → Side
 sideOf v0 v1 v2 =
     let t = dot v0 (cross v1 v2) in
     if le (abs t) ten-epsilon then retestOf v0 v1 v2 else signOf t
+
+-- the triple product t decides alone, for right and for left
+abbrev pub settlesRight : Float → Bool
+settlesRight t = not (le (abs t) ten-epsilon) && not (lt zero t)
+
+abbrev pub settlesLeft : Float → Bool
+settlesLeft t = not (le (abs t) ten-epsilon) && lt zero t

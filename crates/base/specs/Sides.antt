@@ -24,6 +24,13 @@ sideOf v0 v1 v2 =
     let t = dot v0 (cross v1 v2) in
     if le (abs t) ten-epsilon then retestOf v0 v1 v2 else signOf t
 
+-- the triple product t decides alone, for right and for left
+abbrev pub settlesRight : Float → Bool
+settlesRight t = not (le (abs t) ten-epsilon) && not (lt zero t)
+
+abbrev pub settlesLeft : Float → Bool
+settlesLeft t = not (le (abs t) ten-epsilon) && lt zero t
+
 -- right by the product with a normal alone, so that no second test is asked
 unfoldable pub surelyRight : Vec3 → Vec3 → Bool
-surelyRight v0 n = not (le (abs (dot v0 n)) ten-epsilon) && not (lt zero (dot v0 n))
+surelyRight v0 n = settlesRight (dot v0 n)

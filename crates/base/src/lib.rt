@@ -1,6 +1,6 @@
 // The side of a position against a great circle, and the turning angle, as spherical/base.rs has them. Total on every float.
 ghost use mathlib.Core.Path.{_≡_};
-ghost use Rattle.base.specs.Sides.{signOf, retestOf, sideOf, surelyRight};
+ghost use Rattle.base.specs.Sides.{signOf, retestOf, sideOf, settlesRight, settlesLeft, surelyRight};
 ghost use Rattle.base.specs.Turns.{sineOf, turnOf};
 use angle::Angle;
 use vec3::Vec3;
@@ -44,12 +44,25 @@ pub fn side_of(v0: Vec3, v1: Vec3, v2: Vec3) -> Side
     }
 }
 
+// Whether a triple product settles its side alone, and that is right.
+pub fn is_right(t: f64) -> bool
+    ensures { λ r. ⌜ r ≡ settlesRight t ⌝ }
+{
+    !(numbers::abs(t) <= TRIAGE_SIDE_EPS) & !(t > 0.0)
+}
+
+// Whether it does, and that is left.
+pub fn is_left(t: f64) -> bool
+    ensures { λ r. ⌜ r ≡ settlesLeft t ⌝ }
+{
+    !(numbers::abs(t) <= TRIAGE_SIDE_EPS) & (t > 0.0)
+}
+
 // Whether v0 is right of the great circle with this normal by the first test of `side_of` alone. A normal is worked out once for many positions.
 pub fn is_surely_right(v0: Vec3, normal: Vec3) -> bool
     ensures { λ r. ⌜ r ≡ surelyRight v0 normal ⌝ }
 {
-    let t = v0.dot_prod(normal);
-    !(numbers::abs(t) <= TRIAGE_SIDE_EPS) & !(t > 0.0)
+    is_right(v0.dot_prod(normal))
 }
 
 // The sine of the angle from v1 to v2 times their lengths: the length of their cross product, negative where that points away from vn.

@@ -3,6 +3,9 @@
 ghost use mathlib.Core.Path.{_≡_};
 ghost use Prim.Native.Nat.{_+_, _-_, _*_, _%_, _≤_, _<_};
 ghost use lib.ListN.{length};
+ghost use Rattle.laws.specs.Loop.{turns};
+ghost use Rattle.minor_arc.specs.Arcs.{meetingOf, meetingPoint};
+ghost use Rattle.edges.specs.Blocks as B;
 ghost use Rattle.edges.specs.Edges as E;
 ghost use Rattle.edges.specs.Places as P;
 ghost use Rattle.edges.specs.Shapes as S;
@@ -118,14 +121,170 @@ fn passed(n: usize, i: usize, at: Point, s: Crossings) -> Crossings
     }
 }
 
-// Whether the arc crosses the edges an even number of times.
+// The products of a normal with those of k edges from `from` on, into a work array.
+fn write_products(normal: Vec3, normals: &[f64], from: usize, k: usize, out: &mut [f64])
+    requires { ⌜ (from + k ≤ 512) × (3 * (from + k) ≤ length (now normals)) × (length (now out) ≡ 3 * k) ⌝ }
+    ensures { λ _. ⌜ now (out .exit) ≡ B.products normal (now (normals .entry)) from k ⌝ }
+{
+    for j in 0..k {
+        vec3::put(
+            out,
+            j,
+            normal.stable_cross_prod(vec3::at(normals, from + j)),
+        );
+    }
+}
+
+// The unit vector of the vector numbered j of a work array.
+fn unit(vs: &[f64], j: usize) -> Vec3
+    requires { ⌜ 3 * j + 2 < length (now vs) ⌝ }
+    ensures { λ r. ⌜ r ≡ B.unitAt (now (vs .entry)) j ⌝ }
+{
+    let v = vec3::raw(vs, j);
+    Vec3::new_unit(v.x, v.y, v.z)
+}
+
+// The unit vectors of k vectors of a work array, into another.
+fn write_units(vs: &[f64], k: usize, out: &mut [f64])
+    requires { ⌜ (k ≤ 512) × (length (now vs) ≡ 3 * k) × (length (now out) ≡ 3 * k) ⌝ }
+    ensures { λ _. ⌜ now (out .exit) ≡ B.units (now (vs .entry)) k ⌝ }
+{
+    for j in 0..k {
+        vec3::put(out, j, unit(vs, j));
+    }
+}
+
+// The candidates of k edges from `from` on. Products and roots each have a loop of their own: the processor then has many roots under way at once.
+pub fn write_candidates(
+    normal: Vec3,
+    normals: &[f64],
+    from: usize,
+    k: usize,
+    work: &mut [f64],
+    out: &mut [f64],
+)
+    requires { ⌜ (from + k ≤ 512) × (3 * (from + k) ≤ length (now normals)) × (length (now work) ≡ 3 * k) × (length (now out) ≡ 3 * k) ⌝ }
+    ensures { λ _. ⌜ now (out .exit) ≡ B.candidates normal (now (normals .entry)) from k ⌝ }
+{
+    write_products(normal, normals, from, k, work);
+    write_units(work, k, out);
+}
+
+// The candidate of edge i, out of the work array of those from `from` up to `to`. Normal and normals stand here for what the array holds.
+pub fn candidate(
+    normal: Vec3,
+    normals: &[f64],
+    candidates: &[f64],
+    from: usize,
+    to: usize,
+    i: usize,
+) -> Vec3
+    requires { ⌜ (from ≤ i) × (i < to) × (to ≤ 512) × (now candidates ≡ B.candidates normal (now normals) from (to - from)) ⌝ }
+    ensures { λ r. ⌜ r ≡ B.candidateAt normal (now (normals .entry)) i ⌝ }
+{
+    vec3::raw(candidates, i - from)
+}
+
+// Where the arc meets edge i, with its candidate c at hand: an edge whose candidate misses the arc is not read.
+fn point_at(arc: MinorArc, positions: &[f64], normals: &[f64], n: usize, i: usize, c: Vec3) -> Point
+    requires { ⌜ (i < n) × (n ≤ 512) × (3 * n ≤ length (now positions)) × (3 * n ≤ length (now normals)) × (c ≡ B.candidateAt (arc .normal) (now normals) i) ⌝ }
+    ensures { λ r. ⌜ r ≡ meetingPoint (meetingOf arc (E.edgeAt (now (positions .entry)) (now (normals .entry)) n i)) ⌝ }
+{
+    if arc.misses(c) {
+        return Point::Absent;
+    }
+    arc.intersection_at(edge(positions, normals, n, i), c)
+}
+
+// The edges from `from` up to `to`, with their candidates at hand.
+fn pass_edges(
+    arc: MinorArc,
+    positions: &[f64],
+    normals: &[f64],
+    n: usize,
+    from: usize,
+    to: usize,
+    candidates: &[f64],
+    before: Crossings,
+) -> Crossings
+    requires { ⌜ (from ≤ to) × (to ≤ n) × (n ≤ 512) × (3 * n ≤ length (now positions)) × (3 * n ≤ length (now normals)) × (now candidates ≡ B.candidates (arc .normal) (now normals) from (to - from)) ⌝ }
+    ensures { λ r. ⌜ r ≡ turns (P.pass arc (now (positions .entry)) (now (normals .entry)) n) (to - from) from before ⌝ }
+{
+    let mut s = before;
+    for i in from..to {
+        let c = candidate(arc.normal, normals, candidates, from, to, i);
+        s = passed(n, i, point_at(arc, positions, normals, n, i, c), s);
+    }
+    s
+}
+
+// The same, with room for the candidates.
+fn pass_with(
+    arc: MinorArc,
+    positions: &[f64],
+    normals: &[f64],
+    n: usize,
+    from: usize,
+    to: usize,
+    work: &mut [f64],
+    candidates: &mut [f64],
+    before: Crossings,
+) -> Crossings
+    requires { ⌜ (from ≤ to) × (to ≤ n) × (n ≤ 512) × (3 * n ≤ length (now positions)) × (3 * n ≤ length (now normals)) × (length (now work) ≡ 3 * (to - from)) × (length (now candidates) ≡ 3 * (to - from)) ⌝ }
+    ensures { λ r. ⌜ r ≡ turns (P.pass arc (now (positions .entry)) (now (normals .entry)) n) (to - from) from before ⌝ }
+{
+    write_candidates(arc.normal, normals, from, to - from, work, candidates);
+    pass_edges(arc, positions, normals, n, from, to, candidates, before)
+}
+
+// A block of edges: candidates first, so that no test waits for a root.
+fn pass_block(
+    arc: MinorArc,
+    positions: &[f64],
+    normals: &[f64],
+    n: usize,
+    from: usize,
+    to: usize,
+    before: Crossings,
+) -> Crossings
+    requires { ⌜ (from ≤ to) × (to ≤ from + 16) × (to ≤ n) × (n ≤ 512) × (3 * n ≤ length (now positions)) × (3 * n ≤ length (now normals)) ⌝ }
+    ensures { λ r. ⌜ r ≡ turns (P.pass arc (now (positions .entry)) (now (normals .entry)) n) (to - from) from before ⌝ }
+{
+    let size = 3 * (to - from);
+    let mut work = [0.0f64; 48];
+    let mut candidates = [0.0f64; 48];
+    pass_with(
+        arc,
+        positions,
+        normals,
+        n,
+        from,
+        to,
+        &mut work[..size],
+        &mut candidates[..size],
+        before,
+    )
+}
+
+// Where the block ends that starts at `from`.
+pub fn block_end(from: usize, n: usize) -> usize
+    requires { ⌜ (from < n) × (n ≤ 512) ⌝ }
+    ensures { λ r. ⌜ (r ≡ B.blockEnd from n) × (from < r) × (r ≤ from + 16) × (r ≤ n) ⌝ }
+{
+    if n - from < 16 { n } else { from + 16 }
+}
+
+// Whether the arc crosses the edges an even number of times: block by block.
 pub fn crossed_evenly(arc: MinorArc, positions: &[f64], normals: &[f64], n: usize) -> bool
     requires { ⌜ (n ≤ 512) × (3 * n ≤ length (now positions)) × (3 * n ≤ length (now normals)) ⌝ }
     ensures { λ r. ⌜ r ≡ P.crossedEvenly arc (now (positions .entry)) (now (normals .entry)) n ⌝ }
 {
     let mut s = Crossings::new(true, Vec3::ZERO, Vec3::ZERO);
-    for i in 0..n {
-        s = passed(n, i, arc.intersection(edge(positions, normals, n, i)), s);
+    let mut from = 0usize;
+    while from < n {
+        let to = block_end(from, n);
+        s = pass_block(arc, positions, normals, n, from, to, s);
+        from = to;
     }
     s.even
 }

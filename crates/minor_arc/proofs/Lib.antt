@@ -2,3 +2,4 @@ pub mod Judged
 pub mod Clears
 pub mod Unique
 pub mod Settled
+pub mod Missing

@@ -1,5 +1,5 @@
 -- Minor arcs: where a point of an arc's great circle lies, where two arcs meet, and how they relate. Definitions only.
-use mathlib.Core.Bool.{Bool, true, false, _&&_}
+use mathlib.Core.Bool.{Bool, true, false, _&&_, _||_}
 use mathlib.Core.Path.{_≡_}
 use lib.Dec.{T}
 use lib.Ieee.{Float, binary64, fits, neg, lt, le}
@@ -9,10 +9,10 @@ use Rattle.numbers.specs.Near.{near}
 use Rattle.vec3.specs.declared.Vec3.{Vec3}
 use Rattle.vec3.specs.declared.Point.{Point}
 use Rattle.vec3.specs.declared.Point.the-variants.{Absent, At}
-use Rattle.vec3.specs.Vec.{origin, same, dot, opposite, stableUnit, orthogonalTo}
+use Rattle.vec3.specs.Vec.{origin, same, dot, cross, opposite, stableUnit, orthogonalTo}
 use Rattle.base.specs.declared.Side.{Side}
 use Rattle.base.specs.declared.Side.the-variants.{Left, Right, Collinear}
-use Rattle.base.specs.Sides.{sideOf}
+use Rattle.base.specs.Sides.{sideOf, settlesRight, settlesLeft}
 use Rattle.minor_arc.specs.declared.MinorArc.{MinorArc}
 use Rattle.minor_arc.specs.declared.Location.{Location}
 use Rattle.minor_arc.specs.declared.Location.the-variants.{Endpoint, Interior, Exterior}
@@ -69,6 +69,12 @@ onArc a p = near (dot p (a .normal)) zero && within (locationOf a p)
 -- document 01, "Arcs meeting": of a point and its opposite "the one on the side of this arc's start is the only candidate"
 unfoldable pub nearer : Vec3 → Vec3 → Vec3
 nearer s i = if lt zero (dot s i) then i else opposite i
+
+-- that one is beyond an end of the arc, and the products with the normal and each end settle it alone
+unfoldable pub missed : MinorArc → Vec3 → Bool
+missed a i =
+    let p = nearer (a .start) i in
+    settlesRight (dot p (cross (a .normal) (a .start))) || settlesLeft (dot p (cross (a .normal) (a .end)))
 
 -- what two arcs have in p, by where it lies on each
 abbrev pub meetAt : Vec3 → Location → Location → Meeting

@@ -1,6 +1,7 @@
 // Minor arcs, as spherical/minor_arc.rs has them: two positions and a normal, by value. Total on every float: a NaN fails each comparison.
 // The functions of `checked` judge what they are handed; those here do not, and are what loops call.
 ghost use mathlib.Core.Path.{_≡_};
+ghost use Rattle.vec3.specs.Vec.{stableUnit};
 ghost use Rattle.base.specs.Turns.{turnOf};
 ghost use Rattle.minor_arc.specs.Arcs as Arcs;
 use angle::Angle;
@@ -191,11 +192,21 @@ impl MinorArc {
         meet_at(p, a, o.location(p))
     }
 
-    // The source's `intersection_details`. The great circles meet in a point and its opposite; the one on the side of this arc's start is the only candidate.
-    pub fn meeting(self, o: MinorArc) -> Meeting
+    // Whether of i and its opposite the one on the side of this arc's start lies beyond an end for sure: one test that settles most of them.
+    pub fn misses(self, i: Vec3) -> bool
+        ensures { λ r. ⌜ r ≡ Arcs.missed self i ⌝ }
+    {
+        let p = nearer(self.start, i);
+        let s = p.dot_prod(self.normal.cross_prod(self.start));
+        let e = p.dot_prod(self.normal.cross_prod(self.end));
+        base::is_right(s) | base::is_left(e)
+    }
+
+    // `meeting` with the unit vector of the normals' product at hand, as a caller has it who works out many of them first.
+    fn meeting_at(self, o: MinorArc, i: Vec3) -> Meeting
+        requires { ⌜ i ≡ stableUnit (self .normal) (o .normal) ⌝ }
         ensures { λ r. ⌜ r ≡ Arcs.meetingOf self o ⌝ }
     {
-        let i = self.normal.stable_cross_prod_unit(o.normal);
         if i.equals(Vec3::ZERO) {
             Meeting::Collinear
         } else {
@@ -203,16 +214,31 @@ impl MinorArc {
         }
     }
 
-    // The point in which the two arcs meet; none where they are collinear.
-    pub fn intersection(self, o: MinorArc) -> Point
+    // The source's `intersection_details`. The great circles meet in a point and its opposite; the one on the side of this arc's start is the only candidate.
+    pub fn meeting(self, o: MinorArc) -> Meeting
+        ensures { λ r. ⌜ r ≡ Arcs.meetingOf self o ⌝ }
+    {
+        self.meeting_at(o, self.normal.stable_cross_prod_unit(o.normal))
+    }
+
+    // `intersection` with that vector at hand.
+    pub fn intersection_at(self, o: MinorArc, i: Vec3) -> Point
+        requires { ⌜ i ≡ stableUnit (self .normal) (o .normal) ⌝ }
         ensures { λ r. ⌜ r ≡ Arcs.meetingPoint (Arcs.meetingOf self o) ⌝ }
     {
-        match self.meeting(o) {
+        match self.meeting_at(o, i) {
             Meeting::Apart => Point::Absent,
             Meeting::Collinear => Point::Absent,
             Meeting::Crossing(p) => Point::At(p),
             Meeting::Touching(p) => Point::At(p),
         }
+    }
+
+    // The point in which the two arcs meet; none where they are collinear.
+    pub fn intersection(self, o: MinorArc) -> Point
+        ensures { λ r. ⌜ r ≡ Arcs.meetingPoint (Arcs.meetingOf self o) ⌝ }
+    {
+        self.intersection_at(o, self.normal.stable_cross_prod_unit(o.normal))
     }
 
     // The candidate v, if it is on this arc.
@@ -266,14 +292,22 @@ impl MinorArc {
         self.shared(o.consider(h, self.end))
     }
 
-    pub fn relate(self, o: MinorArc) -> MinorArcRelation
+    // `relate` with the unit vector of the normals' product at hand.
+    pub fn relate_at(self, o: MinorArc, i: Vec3) -> MinorArcRelation
+        requires { ⌜ i ≡ stableUnit (self .normal) (o .normal) ⌝ }
         ensures { λ r. ⌜ r ≡ Arcs.relationOf self o ⌝ }
     {
-        match self.meeting(o) {
+        match self.meeting_at(o, i) {
             Meeting::Apart => MinorArcRelation::Disjoint,
             Meeting::Collinear => self.relate_collinear(o),
             Meeting::Crossing(p) => MinorArcRelation::Intersecting(p),
             Meeting::Touching(p) => MinorArcRelation::Touching(p),
         }
+    }
+
+    pub fn relate(self, o: MinorArc) -> MinorArcRelation
+        ensures { λ r. ⌜ r ≡ Arcs.relationOf self o ⌝ }
+    {
+        self.relate_at(o, self.normal.stable_cross_prod_unit(o.normal))
     }
 }

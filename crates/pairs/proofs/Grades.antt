@@ -8,6 +8,7 @@ use native.Mathlib.Numerals.{add-one}
 use native.Mathlib.Omega.{arith}
 use Rattle.laws.specs.Loop.{anyOf}
 use Rattle.laws.proofs.Loops.{left, none}
+use Rattle.laws.proofs.Parts.{any-part}
 use Rattle.pairs.specs.declared.Contact.{Contact}
 use Rattle.pairs.specs.declared.Contact.the-variants.{Crossed}
 use Rattle.pairs.specs.Contacts.{graded, isCrossed, isTouched}
@@ -51,3 +52,17 @@ module _ {x t : ℕ → Bool} {n i : ℕ} {touched : Bool} {z : Contact} (g : Gr
   pub grade-end : n ≤ i → graded false touched ≡ z
   unfolding anyOf
   grade-end h = sym ((rw (none n i h) at (g .rest)) ∙ alone touched)
+
+  -- the turns up to j at once
+  module _ (y : Contact) {j : ℕ} (e : y ≡ graded (anyOf x (j - i) i) (anyOf t (j - i) i)) (h : i ≤ j) (k : j ≤ n) where
+    whole : z ≡ graded (anyOf x (j - i) i || anyOf x (n - j) j) (touched || (anyOf t (j - i) i || anyOf t (n - j) j))
+    whole = rw (any-part x n i j h k, any-part t n i j h k) at (g .rest)
+
+    pub grade-part : {b : Bool} → isCrossed y ≡ false → b ≡ touched || isTouched y → Grade x t n j b z
+    grade-part c m = record {
+      within = k;
+      rest = rw (m, e) (whole ∙ once (anyOf x (j - i) i) (anyOf t (j - i) i) touched (anyOf t (n - j) j) (anyOf x (n - j) j) (rw e at c));
+    }
+
+    pub grade-part-hit : isCrossed y ≡ true → Crossed ≡ z
+    grade-part-hit c = crossing (anyOf x (j - i) i) (anyOf t (j - i) i) (touched || (anyOf t (j - i) i || anyOf t (n - j) j)) (anyOf x (n - j) j) (rw e at c) ∙ sym whole

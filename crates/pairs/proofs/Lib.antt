@@ -1,3 +1,4 @@
 pub mod Grades
 pub mod Firsts
 pub mod Orders
+pub mod Clearing

@@ -1,5 +1,5 @@
 -- How the edges of two rings stand to each other. Definitions only.
-use Prim.Native.Nat.{ℕ}
+use Prim.Native.Nat.{ℕ, _-_}
 use mathlib.Core.Bool.{Bool, true, false}
 use mathlib.Core.List.{List}
 use lib.Ieee.{Float}
@@ -56,6 +56,10 @@ anyTouches a os om m = anyOf (touches a os om m) m 0
 
 abbrev pub arcContact : MinorArc → List Float → List Float → ℕ → Contact
 arcContact a os om m = graded (anyCrosses a os om m) (anyTouches a os om m)
+
+-- the same for its edges from `from` up to `to` alone
+abbrev pub partContact : MinorArc → List Float → List Float → ℕ → ℕ → ℕ → Contact
+partContact a os om m from to = graded (anyOf (crosses a os om m) (to - from) from) (anyOf (touches a os om m) (to - from) from)
 
 -- edge i of a ring against all edges of the other
 abbrev pub edgeCrosses : List Float → List Float → ℕ → List Float → List Float → ℕ → ℕ → Bool

@@ -4,6 +4,9 @@ ghost use mathlib.Core.Path.{_≡_};
 ghost use mathlib.Core.Bool.{false};
 ghost use Prim.Native.Nat.{_+_, _-_, _*_, _≤_, _<_};
 ghost use lib.ListN.{length};
+ghost use Rattle.minor_arc.specs.Arcs.{relationOf};
+ghost use Rattle.edges.specs.Blocks as B;
+ghost use Rattle.edges.specs.Edges.{edgeAt};
 ghost use Rattle.pairs.specs.Contacts as C;
 ghost use Rattle.pairs.specs.Probes as P;
 use minor_arc::MinorArc;
@@ -68,18 +71,109 @@ fn uncrossed(touched: bool) -> Contact
     }
 }
 
-// How an arc stands to the edges of a ring: the first crossing ends it, a touch is remembered.
+// How an arc relates to edge j of a ring, with its candidate c at hand: an edge whose candidate misses the arc is not read.
+fn relation_at(
+    a: MinorArc,
+    others: &[f64],
+    theirs: &[f64],
+    m: usize,
+    j: usize,
+    c: Vec3,
+) -> MinorArcRelation
+    requires { ⌜ (j < m) × (m ≤ 512) × (3 * m ≤ length (now others)) × (3 * m ≤ length (now theirs)) × (c ≡ B.candidateAt (a .normal) (now theirs) j) ⌝ }
+    ensures { λ r. ⌜ r ≡ relationOf a (edgeAt (now (others .entry)) (now (theirs .entry)) m j) ⌝ }
+{
+    if a.misses(c) & !c.equals(Vec3::ZERO) {
+        return MinorArcRelation::Disjoint;
+    }
+    a.relate_at(edges::edge(others, theirs, m, j), c)
+}
+
+// How an arc stands to the edges from `from` up to `to`, with their candidates at hand: the first crossing ends it, a touch is remembered.
+fn edges_contact(
+    a: MinorArc,
+    others: &[f64],
+    theirs: &[f64],
+    m: usize,
+    from: usize,
+    to: usize,
+    candidates: &[f64],
+) -> Contact
+    requires { ⌜ (from ≤ to) × (to ≤ m) × (m ≤ 512) × (3 * m ≤ length (now others)) × (3 * m ≤ length (now theirs)) × (now candidates ≡ B.candidates (a .normal) (now theirs) from (to - from)) ⌝ }
+    ensures { λ r. ⌜ r ≡ C.partContact a (now (others .entry)) (now (theirs .entry)) m from to ⌝ }
+{
+    let mut touched = false;
+    for j in from..to {
+        let c = edges::candidate(a.normal, theirs, candidates, from, to, j);
+        let k = grade(relation_at(a, others, theirs, m, j, c));
+        if is_crossed(k) {
+            return Contact::Crossed;
+        }
+        touched = touched | is_touched(k);
+    }
+    uncrossed(touched)
+}
+
+// The same, with room for the candidates.
+fn contact_with(
+    a: MinorArc,
+    others: &[f64],
+    theirs: &[f64],
+    m: usize,
+    from: usize,
+    to: usize,
+    work: &mut [f64],
+    candidates: &mut [f64],
+) -> Contact
+    requires { ⌜ (from ≤ to) × (to ≤ m) × (m ≤ 512) × (3 * m ≤ length (now others)) × (3 * m ≤ length (now theirs)) × (length (now work) ≡ 3 * (to - from)) × (length (now candidates) ≡ 3 * (to - from)) ⌝ }
+    ensures { λ r. ⌜ r ≡ C.partContact a (now (others .entry)) (now (theirs .entry)) m from to ⌝ }
+{
+    edges::write_candidates(a.normal, theirs, from, to - from, work, candidates);
+    edges_contact(a, others, theirs, m, from, to, candidates)
+}
+
+// How an arc stands to a block of edges: candidates first, so that no test waits for a root.
+fn block_contact(
+    a: MinorArc,
+    others: &[f64],
+    theirs: &[f64],
+    m: usize,
+    from: usize,
+    to: usize,
+) -> Contact
+    requires { ⌜ (from ≤ to) × (to ≤ from + 16) × (to ≤ m) × (m ≤ 512) × (3 * m ≤ length (now others)) × (3 * m ≤ length (now theirs)) ⌝ }
+    ensures { λ r. ⌜ r ≡ C.partContact a (now (others .entry)) (now (theirs .entry)) m from to ⌝ }
+{
+    let size = 3 * (to - from);
+    let mut work = [0.0f64; 48];
+    let mut candidates = [0.0f64; 48];
+    contact_with(
+        a,
+        others,
+        theirs,
+        m,
+        from,
+        to,
+        &mut work[..size],
+        &mut candidates[..size],
+    )
+}
+
+// How an arc stands to the edges of a ring, block by block.
 fn arc_contact(a: MinorArc, others: &[f64], theirs: &[f64], m: usize) -> Contact
     requires { ⌜ (m ≤ 512) × (3 * m ≤ length (now others)) × (3 * m ≤ length (now theirs)) ⌝ }
     ensures { λ r. ⌜ r ≡ C.arcContact a (now (others .entry)) (now (theirs .entry)) m ⌝ }
 {
     let mut touched = false;
-    for j in 0..m {
-        let k = grade(a.relate(edges::edge(others, theirs, m, j)));
+    let mut from = 0usize;
+    while from < m {
+        let to = edges::block_end(from, m);
+        let k = block_contact(a, others, theirs, m, from, to);
         if is_crossed(k) {
             return Contact::Crossed;
         }
         touched = touched | is_touched(k);
+        from = to;
     }
     uncrossed(touched)
 }

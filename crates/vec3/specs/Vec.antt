@@ -69,6 +69,13 @@ unit u =
 abbrev pub crossUnit : Vec3 → Vec3 → Vec3
 crossUnit u v = unitVec (u .y ⊗ v .z ⊖ u .z ⊗ v .y) (u .z ⊗ v .x ⊖ u .x ⊗ v .z) (u .x ⊗ v .y ⊖ u .y ⊗ v .x)
 
+-- (v + u) x (v - u) as it comes, of which `stableUnit` is the unit vector
+abbrev pub stableCross : Vec3 → Vec3 → Vec3
+stableCross u v =
+    let s = summed u v in
+    let p = parted u v in
+    record { x = s .y ⊗ p .z ⊖ s .z ⊗ p .y; y = s .z ⊗ p .x ⊖ s .x ⊗ p .z; z = s .x ⊗ p .y ⊖ s .y ⊗ p .x }
+
 abbrev pub stableUnit : Vec3 → Vec3 → Vec3
 stableUnit u v = crossUnit (summed u v) (parted u v)
 
@@ -95,6 +102,10 @@ mean3 u v w = unitVec (zero ⊕ u .x ⊕ v .x ⊕ w .x) (zero ⊕ u .y ⊕ v .y 
 -- the position numbered i of a list of components. Document 01: "Every position or normal handed in is made free of -0.0"
 abbrev pub posAt : List Float → ℕ → Vec3
 posAt l i = vec (getD l (3 * i) nan) (getD l (3 * i + 1) nan) (getD l (3 * i + 2) nan)
+
+-- a vector of a work array, as it stands
+abbrev pub rawAt : List Float → ℕ → Vec3
+rawAt l i = record { x = getD l (3 * i) nan; y = getD l (3 * i + 1) nan; z = getD l (3 * i + 2) nan }
 
 -- a position's components
 abbrev pub coords : Vec3 → List Float

@@ -4,7 +4,7 @@ ghost use mathlib.Core.Path.{_≡_};
 ghost use Prim.Native.Nat.{_+_, _*_, _<_};
 ghost use lib.ListN.{length};
 ghost use lib.Seq.{sets};
-ghost use Rattle.vec3.specs.Vec.{vec, same, dot, cross, plus, minus, opposite, times, unitVec, unit, crossUnit, stableUnit, axisFor, orthogonal, orthogonalTo, antipodes, mean3, posAt, coords};
+ghost use Rattle.vec3.specs.Vec.{vec, same, dot, cross, plus, minus, opposite, times, unitVec, unit, crossUnit, stableCross, stableUnit, axisFor, orthogonal, orthogonalTo, antipodes, mean3, posAt, rawAt, coords};
 ghost use Rattle.vec3.specs.Points.{triangleMean, middle};
 ghost use Rattle.root.specs.Root.{rootOf};
 
@@ -159,9 +159,9 @@ impl Vec3 {
         Vec3::new_unit(x, y, z)
     }
 
-    // (o + self) x (o - self) at unit length: the cross product that stays steady for nearly parallel vectors.
-    pub fn stable_cross_prod_unit(self, o: Vec3) -> Vec3
-        ensures { λ r. ⌜ r ≡ stableUnit self o ⌝ }
+    // (o + self) x (o - self) as it comes: the cross product that stays steady for nearly parallel vectors, twice as long.
+    pub fn stable_cross_prod(self, o: Vec3) -> Vec3
+        ensures { λ r. ⌜ r ≡ stableCross self o ⌝ }
     {
         let xa = o.x + self.x;
         let ya = o.y + self.y;
@@ -169,7 +169,19 @@ impl Vec3 {
         let xb = o.x - self.x;
         let yb = o.y - self.y;
         let zb = o.z - self.z;
-        Vec3::new_unit(ya * zb - za * yb, za * xb - xa * zb, xa * yb - ya * xb)
+        Vec3 {
+            x: ya * zb - za * yb,
+            y: za * xb - xa * zb,
+            z: xa * yb - ya * xb,
+        }
+    }
+
+    // The same at unit length.
+    pub fn stable_cross_prod_unit(self, o: Vec3) -> Vec3
+        ensures { λ r. ⌜ r ≡ stableUnit self o ⌝ }
+    {
+        let p = self.stable_cross_prod(o);
+        Vec3::new_unit(p.x, p.y, p.z)
     }
 
     // Some unit vector that is orthogonal to this one.
@@ -243,6 +255,18 @@ pub fn at(ps: &[f64], i: usize) -> Vec3
     ensures { λ r. ⌜ r ≡ posAt (now (ps .entry)) i ⌝ }
 {
     Vec3::new(ps[3 * i], ps[3 * i + 1], ps[3 * i + 2])
+}
+
+// The vector numbered i of a work array of our own, as it stands.
+pub fn raw(vs: &[f64], i: usize) -> Vec3
+    requires { ⌜ 3 * i + 2 < length (now vs) ⌝ }
+    ensures { λ r. ⌜ r ≡ rawAt (now (vs .entry)) i ⌝ }
+{
+    Vec3 {
+        x: vs[3 * i],
+        y: vs[3 * i + 1],
+        z: vs[3 * i + 2],
+    }
 }
 
 // Writes v as the position numbered i of a lent list.

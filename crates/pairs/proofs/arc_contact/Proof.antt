@@ -2,16 +2,16 @@ use native.Mathlib.Omega.{arith}
 use borrow.Author.Needs.{needs}
 use mathlib.Core.Path.{refl, sym, _∙_}
 use Prim.Native.Nat.{_-_}
-use Rattle.pairs.proofs.Grades.{Grade, grade, grade-on, grade-hit, grade-end}
+use Rattle.pairs.proofs.Grades.{Grade, grade, grade-part, grade-part-hit, grade-end}
 use Rattle.pairs.specs.Contacts.{crosses, touches, anyCrosses, anyTouches, arcContact}
 use Rattle.pairs.proofs.arc_contact.Statement.{statement}
 use Rattle.pairs.proofs.arc_contact.Tie as tie
 
 abbrev Inv-loop : tie.InvT-loop
-Inv-loop a others theirs m touched₀ j₀ touched j = Grade (crosses a others theirs m) (touches a others theirs m) m j touched (arcContact a others theirs m)
+Inv-loop a others theirs m touched₀ from₀ touched from = Grade (crosses a others theirs m) (touches a others theirs m) m from touched (arcContact a others theirs m)
 
 abbrev μ-loop : tie.MeasureT-loop
-μ-loop a others theirs m touched₀ j₀ touched j = m - j
+μ-loop a others theirs m touched₀ from₀ touched from = m - from
 
 pub arc-contact-spec : {M : Type 1} → statement M
 unfolding anyCrosses anyTouches
@@ -20,16 +20,16 @@ arc-contact-spec =
     (tie.spec
     Inv-loop μ-loop
     (λ c. grade refl)
-    (λ c κs. search needs)
-    (λ c κs. search needs)
-    (λ c κs. search needs)
-    (λ c κs. search needs)
+    (λ c κs. (omega arith, omega arith))
+    (λ c κs. let e = c .block-end .ensures in (omega (arith, e .1), e .2, e .3, omega arith, omega arith, omega arith))
+    (λ c κs. tt)
     (λ c. let k = c .before .before in
-    grade-hit (k .before .before .before .before .loop .inv) (k .grade .result) (simp (k .grade .ensures, k .before .relate .ensures, k .before .before .edge .ensures)) (omega arith) (sym (c .before .is-crossed .ensures) ∙ c .if1 .taken))
-    (λ c κs. search needs)
-    (λ c. search needs)
-    (λ c. search needs)
+    let e = k .before .block-end .ensures in
+    grade-part-hit (k .before .before .before .loop .inv) (k .block-contact .result) (k .block-contact .ensures) (omega (arith, e .1)) (e .3) (sym (c .before .is-crossed .ensures) ∙ c .if1 .taken))
+    (λ c κs. tt)
+    (λ c. omega (arith, c .before .before .before .before .block-end .ensures .1))
     (λ c. let k = c .before .before .before in
-    grade-on (k .before .before .before .before .loop .inv) (k .grade .result) (simp (k .grade .ensures, k .before .relate .ensures, k .before .before .edge .ensures)) (omega arith) (sym (c .before .before .is-crossed .ensures) ∙ c .before .if1 .left) (simp (c .is-touched .ensures)))
-    (λ c κs. search needs)
+    let e = k .before .block-end .ensures in
+    grade-part (k .before .before .before .loop .inv) (k .block-contact .result) (k .block-contact .ensures) (omega (arith, e .1)) (e .3) (sym (c .before .before .is-crossed .ensures) ∙ c .before .if1 .left) (simp (c .is-touched .ensures)))
+    (λ c κs. tt)
     (λ c. c .uncrossed .ensures ∙ grade-end (c .before .before .loop .inv) (omega arith)))

@@ -1,16 +1,9 @@
-use Rattle.minor_arc.specs.Arcs.{relationOf}
 use borrow.Author.Needs.{needs}
 use Rattle.minor_arc.proofs.MinorArc.relate.Statement.{statement}
 use Rattle.minor_arc.proofs.MinorArc.relate.Tie as tie
 
 pub relate-spec : {M : Type 1} → statement M
-unfolding relationOf
 relate-spec =
     tie.close
-    (tie.spec
-    (λ c κs. tt) (λ c. search needs) (λ c. search needs) (λ c κs. tt) (λ c. search needs)
-    (λ c. search needs)
-    (λ c. simp (← c .before .before .meeting .ensures, c .enum-told .given .1))
-    (λ c. simp (← c .before .before .before .meeting .ensures, c .before .enum-told2 .given .1) (c .relate-collinear .ensures))
-    (λ c. simp (← c .before .before .before .meeting .ensures, c .before .p .given .1))
-    (λ c. simp (← c .before .before .before .meeting .ensures, c .before .p2 .given .1)))
+    (tie.spec (λ c κs. tt) (λ c κs. search needs)
+    (λ c. search needs))

@@ -83,7 +83,7 @@ fn relation_at(
     requires { ⌜ (j < m) × (m ≤ 512) × (3 * m ≤ length (now others)) × (3 * m ≤ length (now theirs)) × (c ≡ B.candidateAt (a .normal) (now theirs) j) ⌝ }
     ensures { λ r. ⌜ r ≡ relationOf a (edgeAt (now (others .entry)) (now (theirs .entry)) m j) ⌝ }
 {
-    if a.misses(c) & !c.equals(Vec3::ZERO) {
+    if !c.equals(Vec3::ZERO) & a.misses(c) {
         return MinorArcRelation::Disjoint;
     }
     a.relate_at(edges::edge(others, theirs, m, j), c)

@@ -3,7 +3,7 @@ use mathlib.Core.Path.{sym, _∙_}
 use Rattle.minor_arc.proofs.Missing.{missed-disjoint}
 use Rattle.edges.specs.Edges.{edgeAt}
 use Rattle.edges.specs.Blocks.{candidateAt}
-use Rattle.pairs.proofs.Clearing.{first-alone}
+use Rattle.pairs.proofs.Clearing.{second-alone}
 use Rattle.pairs.proofs.relation_at.Statement.{statement}
 use Rattle.pairs.proofs.relation_at.Tie as tie
 
@@ -12,8 +12,8 @@ unfolding edgeAt candidateAt
 relation-at-spec =
     tie.close
     (tie.spec (λ c κs. tt) (λ c κs. tt)
-    (λ c. let t = first-alone (c .before .before .misses .result) (c .before .equals .result) (c .if1 .taken) in
-    missed-disjoint _ _ (c .before .before .before .before .before .pre .4) (sym (c .before .before .misses .ensures) ∙ t .0) (sym (c .before .equals .ensures) ∙ t .1))
+    (λ c. let t = second-alone (c .before .before .equals .result) (c .before .misses .result) (c .if1 .taken) in
+    missed-disjoint _ _ (c .before .before .before .before .before .pre .4) (sym (c .before .misses .ensures) ∙ t .1) (sym (c .before .before .equals .ensures) ∙ t .0))
     (λ c κs. search needs)
     (λ c κs. simp (c .edge .ensures) (c .before .before .before .before .before .before .pre .4))
     (λ c. simp (c .relate-at .ensures, c .before .edge .ensures)))

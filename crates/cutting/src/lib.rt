@@ -236,11 +236,11 @@ fn find_means(ps: &[f64], ids: &mut [u16], classes: &mut [u8], apart: &mut [u16]
     requires { ⌜ Lent (now ps) (now ids) (now classes) × (3 ≤ length (now ids)) × (length (now ids) ≤ length (now apart)) ⌝ }
     ensures { λ r. ⌜ r ≡ meansFrom (now (ps .entry)) (record { ids = now (ids .entry); classes = now (classes .entry) }) ⌝ }
 {
-    let mut k = ears::list_apart(ids, classes, apart);
+    let mut count = ears::list_apart(ids, classes, apart);
     let mut m = ids.len();
     let mut f = Found::Nothing;
     while 3 < m {
-        let i = ears::lowest_ear(ps, &ids[..m], classes, &apart[..k]);
+        let i = ears::lowest_ear(ps, &ids[..m], classes, &apart[..count]);
         if i == m {
             return f;
         }
@@ -248,7 +248,7 @@ fn find_means(ps: &[f64], ids: &mut [u16], classes: &mut [u8], apart: &mut [u16]
         if is_both(f) {
             return f;
         }
-        k = ears::cut_apart(ps, &mut ids[..m], classes, apart, k, i);
+        count = ears::cut_apart(ps, &mut ids[..m], classes, apart, count, i);
         m -= 1;
     }
     with_mean(f, mean_at(ps, &ids[..m], 1))

@@ -280,12 +280,16 @@ fn class_of(s: Side) -> u8
     }
 }
 
-fn side_at(ps: &[f64], ids: &[u16], i: usize) -> Side
+// The class of the corner at place i. Most are convex by one product.
+fn class_at(ps: &[f64], ids: &[u16], i: usize) -> u8
     requires { ⌜ Placed (now ps) (now ids) × (i < length (now ids)) × (length (now ids) ≤ 512) ⌝ }
-    ensures { λ r. ⌜ r ≡ turnOf (triangleAt (now (ps .entry)) (now (ids .entry)) i) ⌝ }
+    ensures { λ r. ⌜ r ≡ classOf (turnOf (triangleAt (now (ps .entry)) (now (ids .entry)) i)) ⌝ }
 {
     let t = triangle_at(ps, ids, i);
-    base::side_of(t.previous, t.this, t.next)
+    if base::is_surely_right(t.previous, t.this.cross_prod(t.next)) {
+        return 0;
+    }
+    class_of(base::side_of(t.previous, t.this, t.next))
 }
 
 fn differ(a: bool, b: bool) -> bool
@@ -299,7 +303,7 @@ fn reclassify(ps: &[f64], ids: &[u16], classes: &mut [u8], i: usize) -> bool
     requires { ⌜ Lent (now ps) (now ids) (now classes) × (i < length (now ids)) ⌝ }
     ensures { λ r. ⌜ (now (classes .exit) ≡ reclass (now (ps .entry)) (now (ids .entry)) i (now (classes .entry))) × (r ≡ turned (now (ps .entry)) (now (ids .entry)) i (now (classes .entry))) ⌝ }
 {
-    let c = class_of(side_at(ps, ids, i));
+    let c = class_at(ps, ids, i);
     let was = is_convex(ids, classes, i);
     let k = ids[i] as usize;
     classes[k] = c;
@@ -315,8 +319,9 @@ fn reclassify_both(ps: &[f64], ids: &[u16], classes: &mut [u8], i: usize) -> boo
     let m = ids.len();
     if 3 < m {
         let next = wrapped(m, i);
+        let before = prior(m, next);
         let a = reclassify(ps, ids, classes, next);
-        let b = reclassify(ps, ids, classes, prior(m, next));
+        let b = reclassify(ps, ids, classes, before);
         return a | b;
     }
     false

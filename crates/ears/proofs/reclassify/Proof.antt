@@ -12,11 +12,10 @@ reclassify-spec =
     tie.close
     (tie.spec
     (λ c κs. (placed (c .before .before .before .pre .0), c .before .before .before .pre .1, c .before .before .before .pre .0 .few))
-    (λ c κs. search needs)
-    (λ c κs. (c .before .before .before .before .before .before .pre .1, c .before .before .before .before .before .before .pre .0 .below _ (c .before .before .before .before .before .before .pre .1)))
+    (λ c κs. (c .before .before .before .before .before .pre .1, c .before .before .before .before .before .pre .0 .below _ (c .before .before .before .before .before .pre .1)))
     (λ c. search needs) (λ c. search needs)
-    (λ c. omega (arith, c .shared-slice-known3 .given (c .before .before .before .before .before .before .before .before .args .i)))
-    (λ c. c .before .before .before .before .before .before .before .before .pre .0 .below _ (c .before .before .before .before .before .before .before .before .pre .1))
+    (λ c. omega (arith, c .shared-slice-known3 .given (c .before .before .before .before .before .before .before .args .i)))
+    (λ c. c .before .before .before .before .before .before .before .pre .0 .below _ (c .before .before .before .before .before .before .before .pre .1))
     (λ c κs. search needs)
     (λ c. search needs)
-    (λ c. (simp (c .before .before .before .before .class-of .ensures, c .before .before .before .before .before .side-at .ensures), simp (c .differ .ensures, c .before .before .is-convex .ensures, c .before .before .before .before .class-of .ensures, c .before .before .before .before .before .side-at .ensures))))
+    (λ c. (simp (c .before .before .before .before .class-at .ensures), simp (c .differ .ensures, c .before .before .is-convex .ensures, c .before .before .before .before .class-at .ensures))))

@@ -157,6 +157,10 @@ of-exports : OfExports
 of-exports = record {
   desk_root = λ b. itself _;
   desk_atan2 = λ y x. itself _;
+  desk_pair = λ s t. itself _;
+  desk_equivalent = λ s t. itself _;
+  desk_build_f64 = λ list header ps ns cs. itself _;
+  desk_pair_f64 = λ header ps ns cs other qs ms ds. itself _;
   desk_arc = λ s e out. itself _;
   desk_arc_opposite = λ a out. itself _;
   desk_arc_side = λ a p. itself _;

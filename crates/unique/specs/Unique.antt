@@ -30,6 +30,9 @@ use Rattle.frames.specs.Left.{Left}
 use Rattle.building.specs.Building.{buildLeft}
 use Rattle.asking.specs.declared.Question.the-variants as Question
 use Rattle.asking.specs.Asking as Asking
+use Rattle.building.specs.Building as Built
+use Rattle.pairing.specs.declared.Comparison.the-variants as Comparison
+use Rattle.pairing.specs.Pairing as Pairing
 use Rattle.slicing.specs.Slicing as Slicing
 use Rattle.slicing.specs.Checking as Checking
 use Rattle.exports.specs.Arcs as Bytes
@@ -99,6 +102,10 @@ pub record OfLoops : Type 0 where
 pub record OfExports : Type 0 where
   pub desk_root : (b : ℕ) → One (λ (r : ℕ). r ≡ toBits binary64 (rootOf (ofBits binary64 b)))
   pub desk_atan2 : (y x : ℕ) → One (λ (r : ℕ). r ≡ toBits binary64 (atan2 (ofBits binary64 y) (ofBits binary64 x)))
+  pub desk_pair : (s t : List ℕ) → One (λ (r : ℕ). r ≡ Asking.numberOf (Pairing.pairTold Comparison.Relation s t))
+  pub desk_equivalent : (s t : List ℕ) → One (λ (r : ℕ). r ≡ Asking.numberOf (Pairing.pairTold Comparison.Equivalence s t))
+  pub desk_build_f64 : (list : List Float) (header : List ℕ) (ps ns : List Float) (cs : List ℕ) → One (λ (l : Built.FloatsLeft). l ≡ Built.floatsLeft list header ps ns cs)
+  pub desk_pair_f64 : (header : List ℕ) (ps ns : List Float) (cs other : List ℕ) (qs ms : List Float) (ds : List ℕ) → One (λ (r : ℕ). r ≡ Asking.numberOf (Pairing.floatsTold header ps ns cs other qs ms ds))
   pub desk_arc : (s e out : List ℕ) → One (λ (l : Left ℕ). l ≡ Bytes.leave (Bytes.arcTold s e) out)
   pub desk_arc_opposite : (a out : List ℕ) → One (λ (l : Left ℕ). l ≡ Bytes.leave (Bytes.oppositeTold a) out)
   pub desk_arc_side : (a p : List ℕ) → One (λ (r : ℕ). r ≡ Bytes.numberOf (Bytes.sideTold a p))

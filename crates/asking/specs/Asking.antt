@@ -11,7 +11,7 @@ use Rattle.vec3.specs.declared.Vec3.{Vec3}
 use Rattle.header.specs.declared.Header.{Header}
 use Rattle.header.specs.Loops.{loopFault}
 use Rattle.ask.specs.Answers.{Told, refused, answer, judged}
-use Rattle.ask.specs.Questions.{placeAnswer, vertexAnswer, onEdgeAnswer, convexAnswer, simpleAnswer, equivalentAnswer}
+use Rattle.ask.specs.Questions.{placeAnswer, vertexAnswer, onEdgeAnswer, convexAnswer, simpleAnswer}
 use Rattle.wire.specs.Wire.{vecOf}
 use Rattle.frames.specs.Left.{refusalOf}
 use Rattle.frames.specs.Frames.{countAt, headerAt, positionsAt, normalsAt, classesAt, sizeFault, headerFault, frameFault}
@@ -61,15 +61,6 @@ simpleTold s = judged (frameFault s) (simpleAnswer (headerAt s) (positionsAt s) 
 -- "`desk_place_f64(header, positions, normals, classes, x, y, z)`"
 abbrev pub placeTold : List ℕ → List Float → List Float → List ℕ → Vec3 → Told
 placeTold s ps ns cs p = judged (headerFault s) (placeAnswer (headerAt s) ps ns cs p)
-
--- what a loop in bytes is refused for
-abbrev pub loopJudged : List ℕ → ℕ
-loopJudged s = first (frameFault s) (loopFault (headerAt s) (positionsAt s) (normalsAt s) (classesAt s))
-
-abbrev pub equivalentTold : List ℕ → List ℕ → Told
-equivalentTold a b =
-    judged (first (loopJudged a) (frameFault b))
-    (equivalentAnswer (headerAt a) (positionsAt a) (normalsAt a) (classesAt a) (headerAt b) (positionsAt b) (normalsAt b) (classesAt b))
 
 -- ---- inner
 abbrev pub noQuery : Header → List Float → List Float → List ℕ → ℕ

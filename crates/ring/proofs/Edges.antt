@@ -1,16 +1,19 @@
--- The work array of the edges' normals: its size, and what stands in it. Assumes nothing.
-use Prim.Native.Nat.{ℕ, _+_, _*_, _<_}
+-- The work arrays of the edges' normals and of the sines: their size, and what stands in them. Assumes nothing.
+use Prim.Native.Nat.{ℕ, suc, _+_, _-_, _*_, _≤_, _<_}
 use mathlib.Core.Path.{_≡_, refl, sym, ap, _∙_}
-use mathlib.Core.List.{List}
+use mathlib.Core.List.{List, [], _∷_}
 use native.Mathlib.Nat.{add-zero, zero-add}
 use native.Mathlib.Omega.{arith}
-use lib.ListN.{length, getD}
+use lib.ListN.{length, getD, set}
+use lib.Seq.{sets, getD-set-other}
 use lib.Ieee.{Float, nan}
 use Rattle.laws.specs.Loop.{flat}
 use Rattle.laws.proofs.Blocks.{getD-flat, length-blocks}
 use Rattle.vec3.specs.declared.Vec3.{Vec3}
-use Rattle.vec3.specs.Vec.{coords}
+use Rattle.laws.proofs.Copies.{length-flat}
+use Rattle.vec3.specs.Vec.{coords, posAt, orthogonalTo}
 use Rattle.ring.specs.Ring.{rawAt, edgeNormal, edgeNormals}
+use Rattle.ring.specs.Blocks.{productAt, products, normalOf, sineAt, sines}
 
 -- of any vectors, written one after the other
 module _ (f : ℕ → Vec3) (n : ℕ) where
@@ -34,3 +37,43 @@ module _ (l : List Float) (n : ℕ) {edges : List Float} (e : edges ≡ edgeNorm
 
   pub edge-at : (i : ℕ) → i < n → rawAt edges i ≡ edgeNormal l n i
   edge-at i h = rw e (raw-written (edgeNormal l n) n i h)
+
+-- ---- the work array while products turn to normals: those from i on are still products
+pub record Kept (l : List Float) (n i : ℕ) (d : List Float) : Type 0 where
+  pub held : (j : ℕ) → i ≤ j → j < n → rawAt d j ≡ productAt l n j
+
+pub products-size : (l : List Float) (n : ℕ) {d : List Float} → d ≡ products l n → length d ≡ 3 * n
+products-size l n e = rw e (size (productAt l n) n)
+
+pub kept : {l : List Float} {n : ℕ} {d : List Float} → d ≡ products l n → Kept l n 0 d
+kept {l} {n} e = record { held = λ j a h. rw e (raw-written (productAt l n) n j h) }
+
+-- a vector written at i leaves those after it
+raw-past : (d : List Float) (i j : ℕ) (v : Vec3) → i < j → rawAt (sets d (3 * i) (coords v)) j ≡ rawAt d j
+raw-past d i j v h =
+    let o : (r : ℕ) → getD (sets d (3 * i) (coords v)) (3 * j + r) nan ≡ getD d (3 * j + r) nan =
+    λ r. getD-set-other (set (set d (3 * i) (v .x)) (suc (3 * i)) (v .y)) (suc (suc (3 * i))) (3 * j + r) (v .z) nan (λ q. omega (arith, q))
+    ∙ getD-set-other (set d (3 * i) (v .x)) (suc (3 * i)) (3 * j + r) (v .y) nan (λ q. omega (arith, q))
+    ∙ getD-set-other d (3 * i) (3 * j + r) (v .x) nan (λ q. omega (arith, q))
+    in
+    let e : getD (sets d (3 * i) (coords v)) (3 * j) nan ≡ getD d (3 * j) nan = rw add-zero at (o 0) in
+    rw (e, o 1, o 2)
+
+pub kept-on : {l : List Float} {n i : ℕ} {d : List Float} → Kept l n i d → (v : Vec3) {e : List Float} → e ≡ sets d (3 * i) (coords v) → Kept l n (i + 1) e
+kept-on {i = i} {d = d} t v q = record { held = λ j a h. rw q (raw-past d i j v (omega arith) ∙ t .held j (omega arith) h) }
+
+pub normal-of-product : (l : List Float) (n i : ℕ) → normalOf (posAt l i) (productAt l n i) ≡ edgeNormal l n i
+unfolding normalOf productAt edgeNormal orthogonalTo
+normal-of-product l n i = refl
+
+-- ---- the sines of a block
+module _ (l : List Float) (n from : ℕ) {ss : List Float} {to : ℕ} (e : ss ≡ sines l n from (to - from)) {i : ℕ} (h : from ≤ i) (g : i < to) where
+  pub sines-size : length ss ≡ to - from
+  sines-size = rw e (length-flat (λ j. sineAt l n (from + j) ∷ []) (λ j. refl) (to - from) 0)
+
+  pub sine-held : getD ss (i - from) nan ≡ sineAt l n i
+  sine-held =
+      let q : from + (i - from) ≡ i = omega arith in
+      let p : 1 * (i - from) + 0 ≡ i - from = omega arith in
+      let s = getD-flat nan 1 (λ j. sineAt l n (from + j) ∷ []) (λ j. refl) (to - from) 0 (i - from) 0 (omega arith) (omega arith) in
+      rw e (rw (p, zero-add, q) at s)

@@ -7,6 +7,8 @@ ghost use Prim.Native.Nat.{_+_, _-_, _*_, _%_, _≤_, _<_};
 ghost use lib.ListN.{length, drop};
 ghost use lib.Seq.{sets};
 ghost use Rattle.vec3.specs.Vec.{coords};
+ghost use Rattle.laws.specs.Loop.{turns};
+ghost use Rattle.ring.specs.Blocks as B;
 ghost use Rattle.ring.specs.Ring as R;
 use angle::Angle;
 use vec3::Vec3;
@@ -54,22 +56,62 @@ fn raw(vs: &[f64], i: usize) -> Vec3
     }
 }
 
-// The normal of the edge from position i to the next.
-fn edge_normal(list: &[f64], n: usize, i: usize) -> Vec3
+// The product of which the normal of the edge from position i to the next is the unit vector.
+fn product(list: &[f64], n: usize, i: usize) -> Vec3
     requires { ⌜ (i < n) × (n ≤ 512) × (3 * n ≤ length (now list)) ⌝ }
-    ensures { λ r. ⌜ r ≡ R.edgeNormal (now (list .entry)) n i ⌝ }
+    ensures { λ r. ⌜ r ≡ B.productAt (now (list .entry)) n i ⌝ }
 {
-    vec3::at(list, i).orthogonal_to(vec3::at(list, next(i, n)))
+    vec3::at(list, i).stable_cross_prod(vec3::at(list, next(i, n)))
 }
 
-// The normals of all edges, in the order given, into a work array.
+// The products of all edges, into a work array.
+fn write_products(list: &[f64], n: usize, work: &mut [f64])
+    requires { ⌜ (n ≤ 512) × (3 * n ≤ length (now list)) × (length (now work) ≡ 3 * n) ⌝ }
+    ensures { λ _. ⌜ now (work .exit) ≡ B.products (now (list .entry)) n ⌝ }
+{
+    for i in 0..n {
+        vec3::put(work, i, product(list, n, i));
+    }
+}
+
+// The normal out of the product of an edge from u: its unit vector, or `orthogonal` where that is exactly zero.
+fn normal_of(u: Vec3, p: Vec3) -> Vec3
+    ensures { λ r. ⌜ r ≡ B.normalOf u p ⌝ }
+{
+    let r = Vec3::new_unit(p.x, p.y, p.z);
+    if r.equals(Vec3::ZERO) {
+        u.orthogonal()
+    } else {
+        r
+    }
+}
+
+// The normal of edge i, out of the product that the work array still holds there.
+fn edge_normal(list: &[f64], work: &[f64], n: usize, i: usize) -> Vec3
+    requires { ⌜ (i < n) × (n ≤ 512) × (3 * n ≤ length (now list)) × (length (now work) ≡ 3 * n) × (R.rawAt (now work) i ≡ B.productAt (now list) n i) ⌝ }
+    ensures { λ r. ⌜ r ≡ R.edgeNormal (now (list .entry)) n i ⌝ }
+{
+    normal_of(vec3::at(list, i), raw(work, i))
+}
+
+// The normals of all edges, each in the place of its product.
+fn turn_to_normals(list: &[f64], n: usize, work: &mut [f64])
+    requires { ⌜ (n ≤ 512) × (3 * n ≤ length (now list)) × (now work ≡ B.products (now list) n) ⌝ }
+    ensures { λ _. ⌜ now (work .exit) ≡ R.edgeNormals (now (list .entry)) n ⌝ }
+{
+    for i in 0..n {
+        let normal = edge_normal(list, work, n, i);
+        vec3::put(work, i, normal);
+    }
+}
+
+// The normals of all edges, in the order given, into a work array. Products and roots each have a loop of their own: the processor then has many roots under way at once.
 pub fn write_edge_normals(list: &[f64], n: usize, work: &mut [f64])
     requires { ⌜ (n ≤ 512) × (3 * n ≤ length (now list)) × (length (now work) ≡ 3 * n) ⌝ }
     ensures { λ _. ⌜ now (work .exit) ≡ R.edgeNormals (now (list .entry)) n ⌝ }
 {
-    for i in 0..n {
-        vec3::put(work, i, edge_normal(list, n, i));
-    }
+    write_products(list, n, work);
+    turn_to_normals(list, n, work);
 }
 
 // The normal of edge i, out of the work array. The list stands here for what the array holds.
@@ -80,27 +122,120 @@ fn edge(list: &[f64], edges: &[f64], n: usize, i: usize) -> Vec3
     raw(edges, i)
 }
 
-// The turn from edge i to the next edge.
-fn turn(list: &[f64], edges: &[f64], n: usize, i: usize) -> Angle
+// The sine of the turn from edge i to the next edge.
+fn sine(list: &[f64], edges: &[f64], n: usize, i: usize) -> f64
     requires { ⌜ (i < n) × (n ≤ 512) × (3 * n ≤ length (now list)) × (now edges ≡ R.edgeNormals (now list) n) ⌝ }
-    ensures { λ r. ⌜ r ≡ R.turnAt (now (list .entry)) n i ⌝ }
+    ensures { λ r. ⌜ r ≡ B.sineAt (now (list .entry)) n i ⌝ }
 {
     let j = next(i, n);
-    base::turning_angle(
+    base::sine(
         edge(list, edges, n, i),
         edge(list, edges, n, j),
         vec3::at(list, j),
     )
 }
 
-// The sum of all turns, from the second edge on, the last turn last.
+// The sines of the turns of k edges from `from` on, into a work array.
+fn write_sines(list: &[f64], edges: &[f64], n: usize, from: usize, k: usize, out: &mut [f64])
+    requires { ⌜ (from + k ≤ n) × (n ≤ 512) × (3 * n ≤ length (now list)) × (now edges ≡ R.edgeNormals (now list) n) × (length (now out) ≡ k) ⌝ }
+    ensures { λ _. ⌜ now (out .exit) ≡ B.sines (now (list .entry)) n from k ⌝ }
+{
+    for j in 0..k {
+        out[j] = sine(list, edges, n, from + j);
+    }
+}
+
+// The turn from edge i to the next edge, with its sine at hand.
+fn turn(list: &[f64], edges: &[f64], n: usize, i: usize, sine: f64) -> Angle
+    requires { ⌜ (i < n) × (n ≤ 512) × (now edges ≡ R.edgeNormals (now list) n) × (sine ≡ B.sineAt (now list) n i) ⌝ }
+    ensures { λ r. ⌜ r ≡ R.turnAt (now (list .entry)) n i ⌝ }
+{
+    let after = edge(list, edges, n, next(i, n));
+    Angle::between(sine, edge(list, edges, n, i).dot_prod(after))
+}
+
+// The turn from edge i to the next edge, its sine out of the work array of those from `from` up to `to`.
+fn turn_by(
+    list: &[f64],
+    edges: &[f64],
+    n: usize,
+    sines: &[f64],
+    from: usize,
+    to: usize,
+    i: usize,
+) -> Angle
+    requires { ⌜ (from ≤ i) × (i < to) × (to ≤ n) × (n ≤ 512) × (now edges ≡ R.edgeNormals (now list) n) × (now sines ≡ B.sines (now list) n from (to - from)) ⌝ }
+    ensures { λ r. ⌜ r ≡ R.turnAt (now (list .entry)) n i ⌝ }
+{
+    turn(list, edges, n, i, sines[i - from])
+}
+
+// The turns of the edges from `from` up to `to`, with their sines at hand, added to those before.
+fn add_turns(
+    list: &[f64],
+    edges: &[f64],
+    n: usize,
+    sines: &[f64],
+    from: usize,
+    to: usize,
+    before: Angle,
+) -> Angle
+    requires { ⌜ (from ≤ to) × (to ≤ n) × (n ≤ 512) × (now edges ≡ R.edgeNormals (now list) n) × (now sines ≡ B.sines (now list) n from (to - from)) ⌝ }
+    ensures { λ r. ⌜ r ≡ turns (R.plusTurn (now (list .entry)) n) (to - from) from before ⌝ }
+{
+    let mut sum = before;
+    for i in from..to {
+        sum = sum.add(turn_by(list, edges, n, sines, from, to, i));
+    }
+    sum
+}
+
+// The same, with room for the sines.
+fn add_with(
+    list: &[f64],
+    edges: &[f64],
+    n: usize,
+    from: usize,
+    to: usize,
+    work: &mut [f64],
+    before: Angle,
+) -> Angle
+    requires { ⌜ (from ≤ to) × (to ≤ n) × (n ≤ 512) × (3 * n ≤ length (now list)) × (now edges ≡ R.edgeNormals (now list) n) × (length (now work) ≡ to - from) ⌝ }
+    ensures { λ r. ⌜ r ≡ turns (R.plusTurn (now (list .entry)) n) (to - from) from before ⌝ }
+{
+    write_sines(list, edges, n, from, to - from, work);
+    add_turns(list, edges, n, work, from, to, before)
+}
+
+// A block of turns: sines first, so that no arctangent waits for a root.
+fn add_block(list: &[f64], edges: &[f64], n: usize, from: usize, to: usize, before: Angle) -> Angle
+    requires { ⌜ (from ≤ to) × (to ≤ from + 16) × (to ≤ n) × (n ≤ 512) × (3 * n ≤ length (now list)) × (now edges ≡ R.edgeNormals (now list) n) ⌝ }
+    ensures { λ r. ⌜ r ≡ turns (R.plusTurn (now (list .entry)) n) (to - from) from before ⌝ }
+{
+    let size = to - from;
+    let mut work = [0.0f64; 16];
+    add_with(list, edges, n, from, to, &mut work[..size], before)
+}
+
+// Where the block ends that starts at `from`.
+fn block_end(from: usize, n: usize) -> usize
+    requires { ⌜ (from < n) × (n ≤ 512) ⌝ }
+    ensures { λ r. ⌜ (r ≡ B.blockEnd from n) × (from < r) × (r ≤ from + 16) × (r ≤ n) ⌝ }
+{
+    if n - from < 16 { n } else { from + 16 }
+}
+
+// The sum of all turns, from the second edge on, the last turn last: block by block.
 pub fn turn_sum(list: &[f64], edges: &[f64], n: usize) -> Angle
     requires { ⌜ (n ≤ 512) × (3 * n ≤ length (now list)) × (now edges ≡ R.edgeNormals (now list) n) ⌝ }
     ensures { λ r. ⌜ r ≡ R.turnSum (now (list .entry)) n ⌝ }
 {
     let mut sum = Angle::ZERO;
-    for i in 0..n {
-        sum = sum.add(turn(list, edges, n, i));
+    let mut from = 0usize;
+    while from < n {
+        let to = block_end(from, n);
+        sum = add_block(list, edges, n, from, to, sum);
+        from = to;
     }
     sum
 }

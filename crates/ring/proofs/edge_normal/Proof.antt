@@ -1,12 +1,12 @@
-use Rattle.ring.specs.Ring.{edgeNormal}
+use Rattle.ring.proofs.Edges.{normal-of-product}
 use borrow.Author.Needs.{needs}
+use mathlib.Core.Path.{_∙_}
 use Rattle.ring.proofs.edge_normal.Statement.{statement}
 use Rattle.ring.proofs.edge_normal.Tie as tie
 
 pub edge-normal-spec : {M : Type 1} → statement M
-unfolding edgeNormal
 edge-normal-spec =
     tie.close
     (tie.spec
-    (λ c κs. search needs) (λ c κs. search needs) (λ c κs. search needs) (λ c κs. search needs)
-    (λ c. simp (c .orthogonal-to .ensures, c .before .at2 .ensures, c .before .before .next .ensures .0, c .before .before .before .at .ensures)))
+    (λ c κs. search needs) (λ c κs. search needs) (λ c κs. tt)
+    (λ c. simp (c .normal-of .ensures, c .before .raw .ensures, c .before .before .at .ensures, c .before .before .before .before .before .pre .4) (normal-of-product _ _ _)))

@@ -1,30 +1,10 @@
-use native.Mathlib.Omega.{arith}
 use borrow.Author.Needs.{needs}
-use Rattle.ring.specs.Ring.{edgeNormal}
-use Rattle.vec3.specs.Vec.{coords}
-use Rattle.laws.proofs.Blocks.{Fill, fill, fill-on, fill-all}
-use lib.ListN.{length}
-use mathlib.Core.Path.{_≡_, refl}
-use Prim.Native.Nat.{_-_, _*_}
 use Rattle.ring.proofs.write_edge_normals.Statement.{statement}
 use Rattle.ring.proofs.write_edge_normals.Tie as tie
-
-abbrev Inv-loop : tie.InvT-loop
-Inv-loop list n work₀ i₀ work i = Fill 3 (λ j. coords (edgeNormal list n j)) n i work₀ work × (length work₀ ≡ 3 * n)
-
-abbrev μ-loop : tie.MeasureT-loop
-μ-loop list n work₀ i₀ work i = n - i
 
 pub write-edge-normals-spec : {M : Type 1} → statement M
 write-edge-normals-spec =
     tie.close
     (tie.spec
-    Inv-loop μ-loop
-    (λ c. (fill (λ j. refl) (omega arith), search needs))
-    (λ c κs. search needs)
-    (λ c κs. search needs)
-    (λ c. search needs)
-    (λ c. search needs)
-    (λ c. (fill-on (c .before .before .before .before .before .before .loop .inv .0) (simp (c .before .before .put .ensures, c .before .before .before .edge-normal .ensures)) (omega arith), c .before .before .before .before .before .before .loop .inv .1))
-    (λ c. search needs)
-    (λ c. fill-all (c .before .loop .inv .0) (omega arith) (c .before .loop .inv .1)))
+    (λ c κs. search needs) (λ c κs. search needs) (λ c. search needs)
+    (λ c. search needs))

@@ -1,19 +1,26 @@
 -- The work arrays of the edges' normals and of the sines: their size, and what stands in them. Assumes nothing.
 use Prim.Native.Nat.{ℕ, suc, _+_, _-_, _*_, _≤_, _<_}
 use mathlib.Core.Path.{_≡_, refl, sym, ap, _∙_}
+use mathlib.Core.Bool.{Bool, true, false, cond}
 use mathlib.Core.List.{List, [], _∷_}
 use native.Mathlib.Nat.{add-zero, zero-add}
 use native.Mathlib.Omega.{arith}
 use lib.ListN.{length, getD, set}
 use lib.Seq.{sets, getD-set-other}
-use lib.Ieee.{Float, nan}
+use lib.Ieee.{Float, nan, lt}
+use Rattle.numbers.specs.F64.{_⊖_, _⊘_}
+use Rattle.angle.specs.Arctan as Arctan
+use Rattle.angle.specs.Arctan.{HALF, minus, acute, quadrant, turned, signed, atan2}
+use Rattle.angle.specs.declared.Angle.{Angle}
+use Rattle.angle.specs.Angles.{between}
 use Rattle.laws.specs.Loop.{flat}
 use Rattle.laws.proofs.Blocks.{getD-flat, length-blocks}
 use Rattle.vec3.specs.declared.Vec3.{Vec3}
 use Rattle.laws.proofs.Copies.{length-flat}
+use Rattle.laws.proofs.Parts.{flat-same}
 use Rattle.vec3.specs.Vec.{coords, posAt, orthogonalTo}
-use Rattle.ring.specs.Ring.{rawAt, edgeNormal, edgeNormals}
-use Rattle.ring.specs.Blocks.{productAt, products, normalOf, sineAt, sines}
+use Rattle.ring.specs.Ring.{rawAt, edgeNormal, edgeNormals, turnAt}
+use Rattle.ring.specs.Blocks.{productAt, products, normalOf, sineAt, row, cosineAt, proportion, acutes, quadrantBy, angleBy, proportionAt, acuteAt}
 
 -- of any vectors, written one after the other
 module _ (f : ℕ → Vec3) (n : ℕ) where
@@ -66,14 +73,45 @@ pub normal-of-product : (l : List Float) (n i : ℕ) → normalOf (posAt l i) (p
 unfolding normalOf productAt edgeNormal orthogonalTo
 normal-of-product l n i = refl
 
--- ---- the sines of a block
-module _ (l : List Float) (n from : ℕ) {ss : List Float} {to : ℕ} (e : ss ≡ sines l n from (to - from)) {i : ℕ} (h : from ≤ i) (g : i < to) where
-  pub sines-size : length ss ≡ to - from
-  sines-size = rw e (length-flat (λ j. sineAt l n (from + j) ∷ []) (λ j. refl) (to - from) 0)
+-- ---- a float of each edge of a block
+module _ (f : ℕ → Float) (from k : ℕ) {fs : List Float} (e : fs ≡ row f from k) where
+  pub row-size : length fs ≡ k
+  row-size = rw e (length-flat (λ j. f (from + j) ∷ []) (λ j. refl) k 0)
 
-  pub sine-held : getD ss (i - from) nan ≡ sineAt l n i
-  sine-held =
-      let q : from + (i - from) ≡ i = omega arith in
-      let p : 1 * (i - from) + 0 ≡ i - from = omega arith in
-      let s = getD-flat nan 1 (λ j. sineAt l n (from + j) ∷ []) (λ j. refl) (to - from) 0 (i - from) 0 (omega arith) (omega arith) in
-      rw e (rw (p, zero-add, q) at s)
+  pub row-at : (j : ℕ) → j < k → getD fs j nan ≡ f (from + j)
+  row-at j h =
+      let p : 1 * j + 0 ≡ j = omega arith in
+      let s = getD-flat nan 1 (λ j. f (from + j) ∷ []) (λ j. refl) k 0 j 0 h (omega arith) in
+      rw e (rw (p, zero-add) at s)
+
+pub row-held : (f : ℕ → Float) (from : ℕ) {fs : List Float} {to : ℕ} → fs ≡ row f from (to - from) → {i : ℕ} → from ≤ i → i < to → getD fs (i - from) nan ≡ f i
+row-held f from {to = to} e {i} h g =
+    let q : from + (i - from) ≡ i = omega arith in
+    rw q at (row-at f from (to - from) e (i - from) (omega arith))
+
+-- the arctangents of the proportions
+pub acutes-of : (l : List Float) (n from k : ℕ) → acutes (row (proportionAt l n) from k) k ≡ row (acuteAt l n) from k
+unfolding acuteAt
+acutes-of l n from k =
+    flat-same (λ j. acute (getD (row (proportionAt l n) from k) j nan) ∷ []) (λ j. acuteAt l n (from + j) ∷ []) k 0
+    (λ j h. rw zero-add (ap (λ (t : Float). acute t ∷ []) (row-at (proportionAt l n) from k refl j h)))
+
+-- ---- the arctangent in three goes is the arctangent
+chosen : (p q : Bool) (a b z : Float) → cond p (acute (cond p a b ⊘ cond p b a)) (cond q (HALF ⊖ acute (cond p a b ⊘ cond p b a)) z) ≡ cond p (acute (a ⊘ b)) (cond q (HALF ⊖ acute (b ⊘ a)) z)
+chosen true q a b z = refl
+chosen false q a b z = refl
+
+abbrev turnedOf : Float → Float → Float → Angle
+turnedOf y x r = record { 0 = signed (minus y) (turned (minus x) r) }
+
+pub between-by : (y x : Float) → angleBy y x (acute (proportion y x)) ≡ between y x
+unfolding proportion quadrantBy atan2 quadrant
+between-by y x = ap (λ (r : Float). turnedOf y x r) (chosen (lt (Arctan.size y) (Arctan.size x)) (lt (Arctan.size x) (Arctan.size y)) (Arctan.size y) (Arctan.size x) _)
+
+pub turn-by : (l : List Float) (n i : ℕ) → angleBy (sineAt l n i) (cosineAt l n i) (acuteAt l n i) ≡ turnAt l n i
+unfolding acuteAt proportionAt cosineAt sineAt turnAt
+turn-by l n i = between-by _ _
+
+pub proportion-held : (l : List Float) (n from k : ℕ) {fs : List Float} → fs ≡ row (sineAt l n) from k → {j : ℕ} {x y : Float} → x ≡ cosineAt l n (from + j) → y ≡ proportion (getD fs j nan) x → j < k → proportionAt l n (from + j) ∷ [] ≡ y ∷ []
+unfolding proportionAt
+proportion-held l n from k e {j} p q h = rw (q, p, row-at (sineAt l n) from k e j h)

@@ -1,7 +1,8 @@
 // What a ring is made of, from an opened list of positions: edges, the turn sum, and the corners, normals and classes in clockwise order.
 // Total on every float; `requires` for indexes and lengths alone.
 ghost use mathlib.Core.Path.{_≡_};
-ghost use mathlib.Core.Bool.{Bool};
+ghost use mathlib.Core.Bool.{Bool, cond};
+ghost use lib.Ieee.{lt};
 ghost use mathlib.Core.List.{_++_};
 ghost use Prim.Native.Nat.{_+_, _-_, _*_, _%_, _≤_, _<_};
 ghost use lib.ListN.{length, drop};
@@ -28,12 +29,12 @@ pub fn opened(list: &[f64], m: usize) -> usize
     }
 }
 
-// The place after i, counted round.
+// The place after i, counted round: by a test, since a remainder takes a division.
 fn next(i: usize, n: usize) -> usize
     requires { ⌜ (i < n) × (n ≤ 512) ⌝ }
     ensures { λ r. ⌜ (r ≡ (i + 1) % n) × (r < n) ⌝ }
 {
-    (i + 1) % n
+    if i + 1 < n { i + 1 } else { 0 }
 }
 
 // The place before i, counted round.
@@ -41,7 +42,7 @@ fn previous(i: usize, n: usize) -> usize
     requires { ⌜ (i < n) × (n ≤ 512) ⌝ }
     ensures { λ r. ⌜ (r ≡ (i + n - 1) % n) × (r < n) ⌝ }
 {
-    (i + n - 1) % n
+    if 0 < i { i - 1 } else { n - 1 }
 }
 
 // A vector of a list of our own, as it stands.
@@ -145,76 +146,188 @@ fn write_sines(list: &[f64], edges: &[f64], n: usize, from: usize, k: usize, out
     }
 }
 
-// The turn from edge i to the next edge, with its sine at hand.
-fn turn(list: &[f64], edges: &[f64], n: usize, i: usize, sine: f64) -> Angle
-    requires { ⌜ (i < n) × (n ≤ 512) × (now edges ≡ R.edgeNormals (now list) n) × (sine ≡ B.sineAt (now list) n i) ⌝ }
-    ensures { λ r. ⌜ r ≡ R.turnAt (now (list .entry)) n i ⌝ }
+// The cosine of the turn from edge i to the next edge.
+fn cosine(list: &[f64], edges: &[f64], n: usize, i: usize) -> f64
+    requires { ⌜ (i < n) × (n ≤ 512) × (now edges ≡ R.edgeNormals (now list) n) ⌝ }
+    ensures { λ r. ⌜ r ≡ B.cosineAt (now (list .entry)) n i ⌝ }
 {
     let after = edge(list, edges, n, next(i, n));
-    Angle::between(sine, edge(list, edges, n, i).dot_prod(after))
+    edge(list, edges, n, i).dot_prod(after)
 }
 
-// The turn from edge i to the next edge, its sine out of the work array of those from `from` up to `to`.
-fn turn_by(
+fn lesser(a: f64, b: f64) -> f64
+    ensures { λ r. ⌜ r ≡ cond (lt a b) a b ⌝ }
+{
+    if a < b { a } else { b }
+}
+
+fn greater(a: f64, b: f64) -> f64
+    ensures { λ r. ⌜ r ≡ cond (lt a b) b a ⌝ }
+{
+    if a < b { b } else { a }
+}
+
+// The number from 0 to 1 whose arctangent the angle of (x, y) is made of.
+fn proportion(y: f64, x: f64) -> f64
+    ensures { λ r. ⌜ r ≡ B.proportion y x ⌝ }
+{
+    let a = angle::size(y);
+    let b = angle::size(x);
+    lesser(a, b) / greater(a, b)
+}
+
+// The proportions of k edges from `from` on, whose sines are at hand, into a work array.
+fn write_proportions(
+    list: &[f64],
+    edges: &[f64],
+    n: usize,
+    from: usize,
+    k: usize,
+    sines: &[f64],
+    out: &mut [f64],
+)
+    requires { ⌜ (from + k ≤ n) × (n ≤ 512) × (now edges ≡ R.edgeNormals (now list) n) × (now sines ≡ B.sines (now list) n from k) × (length (now sines) ≡ k) × (length (now out) ≡ k) ⌝ }
+    ensures { λ _. ⌜ now (out .exit) ≡ B.row (B.proportionAt (now (list .entry)) n) from k ⌝ }
+{
+    for j in 0..k {
+        out[j] = proportion(sines[j], cosine(list, edges, n, from + j));
+    }
+}
+
+// The arctangents of k numbers from 0 to 1. The series stands in a loop with no tests, so that several are summed at once.
+fn write_acutes(ts: &[f64], k: usize, out: &mut [f64])
+    requires { ⌜ (k ≤ 512) × (length (now ts) ≡ k) × (length (now out) ≡ k) ⌝ }
+    ensures { λ _. ⌜ now (out .exit) ≡ B.acutes (now (ts .entry)) k ⌝ }
+{
+    for j in 0..k {
+        out[j] = angle::acute(ts[j]);
+    }
+}
+
+// The arctangents that the turns of k edges from `from` on are made of, with room for the proportions.
+fn write_parts(
+    list: &[f64],
+    edges: &[f64],
+    n: usize,
+    from: usize,
+    k: usize,
+    sines: &[f64],
+    work: &mut [f64],
+    out: &mut [f64],
+)
+    requires { ⌜ (from + k ≤ n) × (n ≤ 512) × (now edges ≡ R.edgeNormals (now list) n) × (now sines ≡ B.sines (now list) n from k) × (length (now sines) ≡ k) × (length (now work) ≡ k) × (length (now out) ≡ k) ⌝ }
+    ensures { λ _. ⌜ now (out .exit) ≡ B.row (B.acuteAt (now (list .entry)) n) from k ⌝ }
+{
+    write_proportions(list, edges, n, from, k, sines, work);
+    write_acutes(work, k, out);
+}
+
+// The angle of (b, a) in the first quadrant, with the arctangent of its proportion at hand.
+fn quadrant_by(a: f64, b: f64, u: f64) -> f64
+    ensures { λ r. ⌜ r ≡ B.quadrantBy a b u ⌝ }
+{
+    if a < b {
+        u
+    } else if b < a {
+        angle::HALF - u
+    } else if a == 0.0 {
+        0.0
+    } else if a == b {
+        angle::QUARTER
+    } else {
+        a + b
+    }
+}
+
+// The angle of (x, y), with the arctangent of its proportion at hand.
+fn angle_by(y: f64, x: f64, u: f64) -> Angle
+    ensures { λ r. ⌜ r ≡ B.angleBy y x u ⌝ }
+{
+    let r = quadrant_by(angle::size(y), angle::size(x), u);
+    Angle(angle::signed(angle::minus(y), angle::turned(angle::minus(x), r)))
+}
+
+// The turn from edge i to the next edge, out of the work arrays of those from `from` up to `to`.
+fn turn(
     list: &[f64],
     edges: &[f64],
     n: usize,
     sines: &[f64],
+    parts: &[f64],
     from: usize,
     to: usize,
     i: usize,
 ) -> Angle
-    requires { ⌜ (from ≤ i) × (i < to) × (to ≤ n) × (n ≤ 512) × (now edges ≡ R.edgeNormals (now list) n) × (now sines ≡ B.sines (now list) n from (to - from)) ⌝ }
+    requires { ⌜ (from ≤ i) × (i < to) × (to ≤ n) × (n ≤ 512) × (now edges ≡ R.edgeNormals (now list) n) × (now sines ≡ B.sines (now list) n from (to - from)) × (now parts ≡ B.row (B.acuteAt (now list) n) from (to - from)) ⌝ }
     ensures { λ r. ⌜ r ≡ R.turnAt (now (list .entry)) n i ⌝ }
 {
-    turn(list, edges, n, i, sines[i - from])
+    let x = cosine(list, edges, n, i);
+    let j = i - from;
+    angle_by(sines[j], x, parts[j])
 }
 
-// The turns of the edges from `from` up to `to`, with their sines at hand, added to those before.
+// The turns of the edges from `from` up to `to`, with their sines and arctangents at hand, added to those before.
 fn add_turns(
     list: &[f64],
     edges: &[f64],
     n: usize,
     sines: &[f64],
+    parts: &[f64],
     from: usize,
     to: usize,
     before: Angle,
 ) -> Angle
-    requires { ⌜ (from ≤ to) × (to ≤ n) × (n ≤ 512) × (now edges ≡ R.edgeNormals (now list) n) × (now sines ≡ B.sines (now list) n from (to - from)) ⌝ }
+    requires { ⌜ (from ≤ to) × (to ≤ n) × (n ≤ 512) × (now edges ≡ R.edgeNormals (now list) n) × (now sines ≡ B.sines (now list) n from (to - from)) × (now parts ≡ B.row (B.acuteAt (now list) n) from (to - from)) ⌝ }
     ensures { λ r. ⌜ r ≡ turns (R.plusTurn (now (list .entry)) n) (to - from) from before ⌝ }
 {
     let mut sum = before;
     for i in from..to {
-        sum = sum.add(turn_by(list, edges, n, sines, from, to, i));
+        sum = sum.add(turn(list, edges, n, sines, parts, from, to, i));
     }
     sum
 }
 
-// The same, with room for the sines.
+// The same, with room for the sines, the proportions and the arctangents.
 fn add_with(
     list: &[f64],
     edges: &[f64],
     n: usize,
     from: usize,
     to: usize,
+    sines: &mut [f64],
     work: &mut [f64],
+    parts: &mut [f64],
     before: Angle,
 ) -> Angle
-    requires { ⌜ (from ≤ to) × (to ≤ n) × (n ≤ 512) × (3 * n ≤ length (now list)) × (now edges ≡ R.edgeNormals (now list) n) × (length (now work) ≡ to - from) ⌝ }
+    requires { ⌜ (from ≤ to) × (to ≤ n) × (n ≤ 512) × (3 * n ≤ length (now list)) × (now edges ≡ R.edgeNormals (now list) n) × (length (now sines) ≡ to - from) × (length (now work) ≡ to - from) × (length (now parts) ≡ to - from) ⌝ }
     ensures { λ r. ⌜ r ≡ turns (R.plusTurn (now (list .entry)) n) (to - from) from before ⌝ }
 {
-    write_sines(list, edges, n, from, to - from, work);
-    add_turns(list, edges, n, work, from, to, before)
+    let k = to - from;
+    write_sines(list, edges, n, from, k, sines);
+    write_parts(list, edges, n, from, k, sines, work, parts);
+    add_turns(list, edges, n, sines, parts, from, to, before)
 }
 
-// A block of turns: sines first, so that no arctangent waits for a root.
+// A block of turns: roots, arctangents and the sum each have a loop of their own, so that the processor has many under way at once.
 fn add_block(list: &[f64], edges: &[f64], n: usize, from: usize, to: usize, before: Angle) -> Angle
     requires { ⌜ (from ≤ to) × (to ≤ from + 16) × (to ≤ n) × (n ≤ 512) × (3 * n ≤ length (now list)) × (now edges ≡ R.edgeNormals (now list) n) ⌝ }
     ensures { λ r. ⌜ r ≡ turns (R.plusTurn (now (list .entry)) n) (to - from) from before ⌝ }
 {
     let size = to - from;
+    let mut sines = [0.0f64; 16];
     let mut work = [0.0f64; 16];
-    add_with(list, edges, n, from, to, &mut work[..size], before)
+    let mut parts = [0.0f64; 16];
+    add_with(
+        list,
+        edges,
+        n,
+        from,
+        to,
+        &mut sines[..size],
+        &mut work[..size],
+        &mut parts[..size],
+        before,
+    )
 }
 
 // Where the block ends that starts at `from`.
@@ -261,7 +374,7 @@ fn opposite_source(n: usize, k: usize) -> usize
     requires { ⌜ (k < n) × (n ≤ 512) ⌝ }
     ensures { λ r. ⌜ (r ≡ (2 * n - 2 - k) % n) × (r < n) ⌝ }
 {
-    (2 * n - 2 - k) % n
+    if k + 1 < n { n - 2 - k } else { n - 1 }
 }
 
 // The normal of the edge from corner k on: the edge's own, or of the edge walked the other way its negation.

@@ -12,5 +12,9 @@ add-block-spec =
     (tie.spec
     (λ c. search needs) (λ c. search needs)
     (λ c. sym (first-of 16 F.zero (omega arith)))
-    (λ c κs. (omega arith, omega arith, omega arith, omega arith, search needs, first-of 16 F.zero (omega arith)))
+    (λ c. search needs)
+    (λ c. sym (first-of 16 F.zero (omega arith)))
+    (λ c. search needs)
+    (λ c. sym (first-of 16 F.zero (omega arith)))
+    (λ c κs. (omega arith, omega arith, omega arith, omega arith, c .before .before .before .before .before .pre .5, first-of 16 F.zero (omega arith), first-of 16 F.zero (omega arith), first-of 16 F.zero (omega arith)))
     (λ c. search needs))

@@ -1,14 +1,20 @@
-use Rattle.ring.specs.Ring.{turnAt}
-use Rattle.ring.specs.Blocks.{sineAt}
+use native.Mathlib.Omega.{arith}
 use borrow.Author.Needs.{needs}
+use Rattle.ring.specs.Blocks.{sineAt, acuteAt}
+use Rattle.ring.proofs.Edges.{row-size, row-held, turn-by}
 use Rattle.ring.proofs.turn.Statement.{statement}
 use Rattle.ring.proofs.turn.Tie as tie
 
 pub turn-spec : {M : Type 1} → statement M
-unfolding turnAt sineAt
 turn-spec =
     tie.close
     (tie.spec
-    (λ c κs. search needs) (λ c κs. search needs) (λ c κs. search needs) (λ c κs. tt)
+    (λ c κs. search needs)
+    (λ c. search needs)
+    (λ c. search needs)
+    (λ c. let p = c .before .before .before .before .before .before .pre in omega (arith, row-size (sineAt _ _) _ _ (p .5), p .0, p .1))
+    (λ c. search needs)
+    (λ c. let p = c .before .before .before .before .before .before .before .pre in omega (arith, row-size (acuteAt _ _) _ _ (p .6), p .0, p .1))
     (λ c κs. tt)
-    (λ c. simp (c .between .ensures, c .before .dot-prod .ensures, c .before .before .edge2 .ensures, c .before .before .before .edge .ensures, c .before .before .before .before .next .ensures .0, c .before .before .before .before .before .before .before .pre .3)))
+    (λ c. let p = c .before .before .before .before .before .before .before .before .pre in
+    simp (c .angle-by .ensures, row-held (sineAt _ _) _ (p .5) (p .0) (p .1), row-held (acuteAt _ _) _ (p .6) (p .0) (p .1), c .before .before .before .cosine .ensures) (turn-by _ _ _)))

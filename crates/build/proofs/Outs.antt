@@ -54,3 +54,16 @@ module _ (l ps ns : List Float) (cs : List ℕ) where
         → record { answer = loop h; positions = ps′; normals = ns′; classes = cs′ } ≡ out l ps ns cs
     unfolding out
     looped g q = rw (none, ← o, le-ltb _ _ g) (ap outOf q)
+
+-- the same with work arrays of the sizes asked
+pub lent-with : {l : List Float} {n a b p q r : ℕ} → Lent l n (3 * n) n p q r → a ≡ 3 * n → b ≡ n → Lent l n a b p q r
+lent-with t e f = record {
+  least = t .least;
+  most = t .most;
+  listed = t .listed;
+  edges-size = e;
+  codes-size = f;
+  positions-room = t .positions-room;
+  normals-room = t .normals-room;
+  classes-room = t .classes-room;
+}

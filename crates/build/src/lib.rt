@@ -135,7 +135,74 @@ fn make(
     }
 }
 
-// Builds a loop. The work arrays hold what must not be written before FULL is ruled out.
+// `make` with work arrays for the largest ring: they hold what must not be written before FULL is ruled out.
+fn make_large(
+    list: &[f64],
+    n: usize,
+    positions: &mut [f64],
+    normals: &mut [f64],
+    classes: &mut [u8],
+) -> Header
+    requires { ⌜ B.Lent (now list) n (3 * n) n (length (now positions)) (length (now normals)) (length (now classes)) ⌝ }
+    ensures { λ r. ⌜ record { header = r; positions = now (positions .exit); normals = now (normals .exit); classes = now (classes .exit) } ≡ B.made (now (list .entry)) n (now (positions .entry)) (now (normals .entry)) (now (classes .entry)) ⌝ }
+{
+    let size = 3 * n;
+    let mut edges = [0.0f64; 1536];
+    let mut codes = [0u8; 512];
+    make(
+        list,
+        n,
+        &mut edges[..size],
+        &mut codes[..n],
+        positions,
+        normals,
+        classes,
+    )
+}
+
+// `make` with small work arrays, as clearing large ones would cost a small ring more than its edges.
+fn make_small(
+    list: &[f64],
+    n: usize,
+    positions: &mut [f64],
+    normals: &mut [f64],
+    classes: &mut [u8],
+) -> Header
+    requires { ⌜ B.Lent (now list) n (3 * n) n (length (now positions)) (length (now normals)) (length (now classes)) × (n ≤ 16) ⌝ }
+    ensures { λ r. ⌜ record { header = r; positions = now (positions .exit); normals = now (normals .exit); classes = now (classes .exit) } ≡ B.made (now (list .entry)) n (now (positions .entry)) (now (normals .entry)) (now (classes .entry)) ⌝ }
+{
+    let size = 3 * n;
+    let mut edges = [0.0f64; 48];
+    let mut codes = [0u8; 16];
+    make(
+        list,
+        n,
+        &mut edges[..size],
+        &mut codes[..n],
+        positions,
+        normals,
+        classes,
+    )
+}
+
+// `make` with work arrays of its own.
+fn make_with(
+    list: &[f64],
+    n: usize,
+    positions: &mut [f64],
+    normals: &mut [f64],
+    classes: &mut [u8],
+) -> Header
+    requires { ⌜ B.Lent (now list) n (3 * n) n (length (now positions)) (length (now normals)) (length (now classes)) ⌝ }
+    ensures { λ r. ⌜ record { header = r; positions = now (positions .exit); normals = now (normals .exit); classes = now (classes .exit) } ≡ B.made (now (list .entry)) n (now (positions .entry)) (now (normals .entry)) (now (classes .entry)) ⌝ }
+{
+    if n <= 16 {
+        return make_small(list, n, positions, normals, classes);
+    }
+    make_large(list, n, positions, normals, classes)
+}
+
+// Builds a loop.
 pub fn build(list: &[f64], positions: &mut [f64], normals: &mut [f64], classes: &mut [u8]) -> Built
     ensures { λ r. ⌜ record { answer = B.told r; positions = now (positions .exit); normals = now (normals .exit); classes = now (classes .exit) } ≡ B.out (now (list .entry)) (now (positions .entry)) (now (normals .entry)) (now (classes .entry)) ⌝ }
 {
@@ -147,16 +214,5 @@ pub fn build(list: &[f64], positions: &mut [f64], normals: &mut [f64], classes: 
     if n < 3 {
         return Built::Loop(header::empty());
     }
-    let size = 3 * n;
-    let mut edges = [0.0f64; 1536];
-    let mut codes = [0u8; 512];
-    Built::Loop(make(
-        list,
-        n,
-        &mut edges[..size],
-        &mut codes[..n],
-        positions,
-        normals,
-        classes,
-    ))
+    Built::Loop(make_with(list, n, positions, normals, classes))
 }

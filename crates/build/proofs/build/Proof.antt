@@ -1,8 +1,5 @@
-use native.Mathlib.Omega.{arith}
-use Rattle.numbers.specs.F64 as F
-use Rattle.laws.proofs.Copies.{first-of}
-use mathlib.Core.Path.{sym}
-use Rattle.build.proofs.Outs.{was-refused, small, nothing-left, lent, looped}
+use mathlib.Core.Path.{refl}
+use Rattle.build.proofs.Outs.{was-refused, nothing-left, lent, looped}
 use borrow.Author.Needs.{needs}
 use Rattle.build.proofs.build.Statement.{statement}
 use Rattle.build.proofs.build.Tie as tie
@@ -15,12 +12,6 @@ build-spec =
     (λ c. was-refused _ _ _ _ (c .if1 .taken) (c .before .refusal-of .ensures))
     (λ c κs. search needs) (λ c κs. search needs) (λ c. search needs) (λ c. search needs) (λ c. search needs)
     (λ c. nothing-left _ _ _ _ (c .before .before .before .before .refusal-of .ensures) (c .before .before .before .if1 .left) (c .before .before .opened .ensures) (c .empty .ensures) (c .before .if2 .taken))
-    (λ c. omega (arith, small _ _ _ _ (c .before .before .before .refusal-of .ensures) (c .before .before .if1 .left) (c .before .opened .ensures)))
-    (λ c. omega (arith, small _ _ _ _ (c .before .before .before .refusal-of .ensures) (c .before .before .if1 .left) (c .before .opened .ensures)))
-    (λ c. sym (first-of 1536 F.zero (omega (arith, small _ _ _ _ (c .before .before .before .before .refusal-of .ensures) (c .before .before .before .if1 .left) (c .before .before .opened .ensures)))))
-    (λ c. small _ _ _ _ (c .before .before .before .before .refusal-of .ensures) (c .before .before .before .if1 .left) (c .before .before .opened .ensures))
-    (λ c. sym (first-of 512 0 (small _ _ _ _ (c .before .before .before .before .before .refusal-of .ensures) (c .before .before .before .before .if1 .left) (c .before .before .before .opened .ensures))))
-    (λ c κs. let n = small _ _ _ _ (c .before .before .before .before .before .before .before .before .refusal-of .ensures) (c .before .before .before .before .before .before .before .if1 .left) (c .before .before .before .before .before .before .opened .ensures) in
-    lent _ _ _ _ (c .before .before .before .before .before .before .before .before .refusal-of .ensures) (c .before .before .before .before .before .before .before .if1 .left) (c .before .before .before .before .before .before .opened .ensures) (c .before .before .before .before .before .if2 .left) (first-of 1536 F.zero (omega (arith, n))) (first-of 512 0 n))
+    (λ c κs. lent _ _ _ _ (c .before .before .before .before .before .before .refusal-of .ensures) (c .before .before .before .before .before .if1 .left) (c .before .before .before .before .opened .ensures) (c .before .before .before .if2 .left) refl refl)
     (λ c. search needs) (λ c. search needs) (λ c. search needs)
-    (λ c. looped _ _ _ _ (c .before .before .before .before .before .before .before .before .before .before .before .before .before .before .before .before .before .refusal-of .ensures) (c .before .before .before .before .before .before .before .before .before .before .before .before .before .before .before .before .if1 .left) (c .before .before .before .before .before .before .before .before .before .before .before .before .before .before .before .opened .ensures) (c .before .before .before .before .before .before .before .before .before .before .before .before .before .before .if2 .left) (c .before .before .before .before .before .before .before .before .make .ensures)))
+    (λ c. looped _ _ _ _ (c .before .before .before .before .before .before .before .before .before .before .before .before .before .refusal-of .ensures) (c .before .before .before .before .before .before .before .before .before .before .before .before .if1 .left) (c .before .before .before .before .before .before .before .before .before .before .before .opened .ensures) (c .before .before .before .before .before .before .before .before .before .before .if2 .left) (c .before .before .before .before .before .before .make-with .ensures)))

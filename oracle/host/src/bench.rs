@@ -6,7 +6,7 @@ use jord::{NVector, Vec3};
 use std::hint::black_box;
 use std::time::{Duration, Instant};
 
-/// Nanoseconds of one call: the least of five rounds of at least 10 ms each.
+/// Nanoseconds of one call: the least of fifteen rounds of at least 10 ms each.
 fn nanos(mut call: impl FnMut()) -> f64 {
     let mut times = 1u32;
     loop {
@@ -16,7 +16,7 @@ fn nanos(mut call: impl FnMut()) -> f64 {
         }
         times = (times * 2).max((times as f64 * 0.012 / t.as_secs_f64().max(1e-9)).min(1e8) as u32);
     }
-    (0..5).map(|_| round(&mut call, times).as_nanos() as f64 / f64::from(times)).fold(f64::MAX, f64::min)
+    (0..15).map(|_| round(&mut call, times).as_nanos() as f64 / f64::from(times)).fold(f64::MAX, f64::min)
 }
 
 fn round(call: &mut impl FnMut(), times: u32) -> Duration {
@@ -185,7 +185,7 @@ pub fn bench() {
         println!("A STAND-IN is linked, not the port: the column `ours` says nothing.");
     }
     println!(
-        "Nanoseconds a call, least of five rounds; ours through the _f64 exports{}.",
+        "Nanoseconds a call, least of fifteen rounds; ours through the _f64 exports{}.",
         if Both::of(&shape(false, 4, CENTRE, 0.3)).build().is_some() { "" } else { " (not linked here, so not timed)" }
     );
     println!("{:<22} {:<7} {:>4} {:>12} {:>12} {:>7}", "what", "shape", "n", "ours", "the Rust", "ratio");
@@ -200,6 +200,7 @@ pub fn bench() {
 pub fn repeat(who: &str, what: &str, star: bool, n: usize, times: usize) {
     let mut a = Both::of(&shape(star, n, CENTRE, 0.3));
     let b = Both::of(&shape(star, n, crate::random::around(CENTRE, 2.2, 0.001), 0.1));
+    let c = Both::of(&shape(star, n, crate::random::around(CENTRE, 1.1, 0.31), 0.3));
     let p = crate::random::around(CENTRE, 0.123, 0.017);
     let q = nvector(p);
     let mut out = vec![0; 3 * n];
@@ -208,12 +209,14 @@ pub fn repeat(who: &str, what: &str, star: bool, n: usize, times: usize) {
             ("ours", "build") => drop(black_box(a.build())),
             ("ours", "place") => drop(black_box(a.place(black_box(p)))),
             ("ours", "pair") => drop(black_box(a.pair(black_box(&b)))),
+            ("ours", "crossing") => drop(black_box(a.pair(black_box(&c)))),
             ("ours", "triangles") => drop(black_box(a.triangles(&mut out))),
             ("rust", "build") => drop(black_box(Loop::new(black_box(&a.vs)))),
             ("rust", "place") => drop(black_box(a.rust.contains_position(black_box(q)))),
             ("rust", "pair") => drop(black_box(a.rust.relate(black_box(&b.rust)))),
+            ("rust", "crossing") => drop(black_box(a.rust.relate(black_box(&c.rust)))),
             ("rust", "triangles") => drop(black_box(a.rust.triangulate())),
-            _ => panic!("ours or rust; build, place, pair or triangles"),
+            _ => panic!("ours or rust; build, place, pair, crossing or triangles"),
         }
     }
 }

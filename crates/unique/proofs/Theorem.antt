@@ -19,7 +19,10 @@ use Rattle.triangles.specs.Triangles.{toldCut}
 use Rattle.relate.specs.declared.Related.{Related}
 use Rattle.relate.specs.declared.Related.the-variants as Related
 use Rattle.relate.specs.Relations.{toldRelated}
-use Rattle.unique.specs.Unique.{One, OneToOne, BuildEnd, toldBuild, CutEnd, toldEnd, Definitions, OfArcs, OfLoops, OfExports, Unique}
+use Rattle.lines.specs.Lines.{Wrote}
+use Rattle.scenes.specs.Scenes.{sceneText}
+use Rattle.scenes.proofs.Unique.{run-unique}
+use Rattle.unique.specs.Unique.{One, OneToOne, BuildEnd, toldBuild, CutEnd, toldEnd, RunEnd, Definitions, OfArcs, OfLoops, OfExports, OfScenes, Unique}
 
 -- ---- from the number back to the answer
 abbrev backPlaced : Told → Placed
@@ -183,5 +186,13 @@ of-exports = record {
   leaf_cap = λ list out. itself _;
 }
 
+one-run : (s out : List ℕ) → One (λ (e : RunEnd). Wrote out 0 (sceneText s) (e .out) (e .size))
+one-run s out x y v w =
+    let h = run-unique s out v w in
+    ap (λ (o : List ℕ). record { out = o; size = x .size }) (h .0) ∙ ap (λ (n : ℕ). record { out = y .out; size = n }) (h .1)
+
+of-scenes : OfScenes
+of-scenes = record { run = one-run }
+
 pub unique : Unique
-unique = record { definitions = definitions; of-arcs = of-arcs; of-loops = of-loops; of-exports = of-exports }
+unique = record { definitions = definitions; of-arcs = of-arcs; of-loops = of-loops; of-exports = of-exports; of-scenes = of-scenes }

@@ -35,6 +35,8 @@ use Rattle.pairing.specs.declared.Comparison.the-variants as Comparison
 use Rattle.pairing.specs.Pairing as Pairing
 use Rattle.slicing.specs.Slicing as Slicing
 use Rattle.slicing.specs.Checking as Checking
+use Rattle.lines.specs.Lines.{Wrote}
+use Rattle.scenes.specs.Scenes.{sceneText}
 use Rattle.exports.specs.Arcs as Bytes
 use Rattle.exports.specs.Leaves as Leaves
 
@@ -127,8 +129,17 @@ pub record OfExports : Type 0 where
   pub leaf_case : (op : ℕ) (input : List Float) → One (λ (r : ℕ). r ≡ Leaves.leafCase op input)
   pub leaf_cap : (list out : List Float) → One (λ (l : Left Float). l ≡ Leaves.leafCap list out)
 
+-- crate scenes: the bytes lent for the text at exit, and how many of them are the text
+pub record RunEnd : Type 0 where
+  pub out : List ℕ
+  pub size : ℕ
+
+pub record OfScenes : Type 0 where
+  pub run : (s out : List ℕ) → One (λ (e : RunEnd). Wrote out 0 (sceneText s) (e .out) (e .size))
+
 pub record Unique : Type 0 where
   pub definitions : Definitions
   pub of-arcs : OfArcs
   pub of-loops : OfLoops
   pub of-exports : OfExports
+  pub of-scenes : OfScenes

@@ -14,6 +14,10 @@ use Rattle.vec3.specs.declared.Vec3.{Vec3}
 abbrev pub vec : Float → Float → Float → Vec3
 vec a b c = record { x = zero ⊕ a; y = zero ⊕ b; z = zero ⊕ c }
 
+-- a vector as it is read, free of -0.0
+abbrev pub cleared : Vec3 → Vec3
+cleared u = vec (u .x) (u .y) (u .z)
+
 -- the origin, and the axes
 abbrev pub origin : Vec3
 origin = record { x = zero; y = zero; z = zero }
@@ -33,8 +37,12 @@ same u v = eq (u .x) (v .x) && eq (u .y) (v .y) && eq (u .z) (v .z)
 abbrev pub dot : Vec3 → Vec3 → Float
 dot u v = u .x ⊗ v .x ⊕ u .y ⊗ v .y ⊕ u .z ⊗ v .z
 
+-- the cross product as it comes, and stored
+abbrev pub product : Vec3 → Vec3 → Vec3
+product u v = record { x = u .y ⊗ v .z ⊖ u .z ⊗ v .y; y = u .z ⊗ v .x ⊖ u .x ⊗ v .z; z = u .x ⊗ v .y ⊖ u .y ⊗ v .x }
+
 abbrev pub cross : Vec3 → Vec3 → Vec3
-cross u v = vec (u .y ⊗ v .z ⊖ u .z ⊗ v .y) (u .z ⊗ v .x ⊖ u .x ⊗ v .z) (u .x ⊗ v .y ⊖ u .y ⊗ v .x)
+cross u v = cleared (product u v)
 
 abbrev pub plus : Vec3 → Vec3 → Vec3
 plus u v = vec (u .x ⊕ v .x) (u .y ⊕ v .y) (u .z ⊕ v .z)
@@ -67,14 +75,13 @@ unit u =
     if eq n zero then origin else times u (one ⊘ n)
 
 abbrev pub crossUnit : Vec3 → Vec3 → Vec3
-crossUnit u v = unitVec (u .y ⊗ v .z ⊖ u .z ⊗ v .y) (u .z ⊗ v .x ⊖ u .x ⊗ v .z) (u .x ⊗ v .y ⊖ u .y ⊗ v .x)
+crossUnit u v =
+    let p = product u v in
+    unitVec (p .x) (p .y) (p .z)
 
 -- (v + u) x (v - u) as it comes, of which `stableUnit` is the unit vector
 abbrev pub stableCross : Vec3 → Vec3 → Vec3
-stableCross u v =
-    let s = summed u v in
-    let p = parted u v in
-    record { x = s .y ⊗ p .z ⊖ s .z ⊗ p .y; y = s .z ⊗ p .x ⊖ s .x ⊗ p .z; z = s .x ⊗ p .y ⊖ s .y ⊗ p .x }
+stableCross u v = product (summed u v) (parted u v)
 
 abbrev pub stableUnit : Vec3 → Vec3 → Vec3
 stableUnit u v = crossUnit (summed u v) (parted u v)

@@ -4,7 +4,7 @@ ghost use mathlib.Core.Path.{_≡_};
 ghost use Prim.Native.Nat.{_+_, _*_, _<_};
 ghost use lib.ListN.{length};
 ghost use lib.Seq.{sets};
-ghost use Rattle.vec3.specs.Vec.{vec, same, dot, cross, plus, minus, opposite, times, unitVec, unit, crossUnit, stableCross, stableUnit, axisFor, orthogonal, orthogonalTo, antipodes, mean3, posAt, rawAt, coords};
+ghost use Rattle.vec3.specs.Vec.{vec, cleared, same, dot, product, cross, plus, minus, opposite, times, unitVec, unit, crossUnit, stableCross, stableUnit, axisFor, orthogonal, orthogonalTo, antipodes, mean3, posAt, rawAt, coords};
 ghost use Rattle.vec3.specs.Points.{triangleMean, middle};
 ghost use Rattle.root.specs.Root.{rootOf};
 
@@ -28,6 +28,17 @@ fn axis(x: f64, y: f64, z: f64) -> Vec3
         if x > z { Vec3::UNIT_Z } else { Vec3::UNIT_Y }
     } else {
         if y > z { Vec3::UNIT_X } else { Vec3::UNIT_Y }
+    }
+}
+
+// The cross product as it comes, before any component is stored.
+fn crossed(a: Vec3, b: Vec3) -> Vec3
+    ensures { λ r. ⌜ r ≡ product a b ⌝ }
+{
+    Vec3 {
+        x: a.y * b.z - a.z * b.y,
+        y: a.z * b.x - a.x * b.z,
+        z: a.x * b.y - a.y * b.x,
     }
 }
 
@@ -73,13 +84,17 @@ impl Vec3 {
         self.x * o.x + self.y * o.y + self.z * o.z
     }
 
+    // A vector as it is read: free of -0.0.
+    pub fn clear(self) -> Vec3
+        ensures { λ r. ⌜ r ≡ cleared self ⌝ }
+    {
+        Vec3::new(self.x, self.y, self.z)
+    }
+
     pub fn cross_prod(self, o: Vec3) -> Vec3
         ensures { λ r. ⌜ r ≡ cross self o ⌝ }
     {
-        let x = self.y * o.z - self.z * o.y;
-        let y = self.z * o.x - self.x * o.z;
-        let z = self.x * o.y - self.y * o.x;
-        Vec3::new(x, y, z)
+        crossed(self, o).clear()
     }
 
     pub fn squared_norm(self) -> f64
@@ -153,27 +168,25 @@ impl Vec3 {
     pub fn cross_prod_unit(self, o: Vec3) -> Vec3
         ensures { λ r. ⌜ r ≡ crossUnit self o ⌝ }
     {
-        let x = self.y * o.z - self.z * o.y;
-        let y = self.z * o.x - self.x * o.z;
-        let z = self.x * o.y - self.y * o.x;
-        Vec3::new_unit(x, y, z)
+        let p = crossed(self, o);
+        Vec3::new_unit(p.x, p.y, p.z)
     }
 
     // (o + self) x (o - self) as it comes: the cross product that stays steady for nearly parallel vectors, twice as long.
     pub fn stable_cross_prod(self, o: Vec3) -> Vec3
         ensures { λ r. ⌜ r ≡ stableCross self o ⌝ }
     {
-        let xa = o.x + self.x;
-        let ya = o.y + self.y;
-        let za = o.z + self.z;
-        let xb = o.x - self.x;
-        let yb = o.y - self.y;
-        let zb = o.z - self.z;
-        Vec3 {
-            x: ya * zb - za * yb,
-            y: za * xb - xa * zb,
-            z: xa * yb - ya * xb,
-        }
+        let summed = Vec3 {
+            x: o.x + self.x,
+            y: o.y + self.y,
+            z: o.z + self.z,
+        };
+        let parted = Vec3 {
+            x: o.x - self.x,
+            y: o.y - self.y,
+            z: o.z - self.z,
+        };
+        crossed(summed, parted)
     }
 
     // The same at unit length.

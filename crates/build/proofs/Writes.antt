@@ -12,8 +12,9 @@ use Rattle.angle.specs.declared.Angle.{Angle}
 use Rattle.angle.specs.Angles.{weak, clockwise}
 use Rattle.cap.specs.declared.Cap.{Cap}
 use Rattle.cap.specs.Caps.{boundingCap}
-use Rattle.ring.specs.Ring.{cornerAt, classAt, turnSum, reversal, edgeNormals, ringOf, normalsOf, classesOf, allBoth}
-use Rattle.ring.proofs.Edges.{size}
+use Rattle.turning.specs.Turning.{turnSum, edgeNormals}
+use Rattle.ring.specs.Ring.{cornerAt, classAt, reversal, ringOf, normalsOf, classesOf, allBoth}
+use Rattle.turning.proofs.Edges.{size}
 use Rattle.cutting.specs.declared.Insides.{Insides}
 use Rattle.cutting.specs.Cutting.{Ring}
 use Rattle.header.specs.declared.Header.{Header}

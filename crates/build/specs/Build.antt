@@ -11,7 +11,8 @@ use Rattle.angle.specs.declared.Angle.{Angle}
 use Rattle.angle.specs.Angles.{weak}
 use Rattle.cap.specs.Caps.{boundingCap}
 use Rattle.judge.specs.Judge.{positionsFault}
-use Rattle.ring.specs.Ring.{opened, edgeNormals, turnSum, reversal, ringOf, normalsOf, classesOf, allBoth}
+use Rattle.turning.specs.Turning.{edgeNormals, turnSum}
+use Rattle.ring.specs.Ring.{opened, reversal, ringOf, normalsOf, classesOf, allBoth}
 use Rattle.cutting.specs.declared.Insides.{Insides}
 use Rattle.cutting.specs.declared.Insides.the-variants.{Absent, Two}
 use Rattle.cutting.specs.Insides.{insidesOf}

@@ -59,8 +59,8 @@ fn prepare(list: &[f64], n: usize, edges: &mut [f64], codes: &mut [u8]) -> Angle
     requires { ⌜ (n ≤ 512) × (3 * n ≤ length (now list)) × (length (now edges) ≡ 3 * n) × (length (now codes) ≡ n) ⌝ }
     ensures { λ r. ⌜ record { sum = r; edges = now (edges .exit); classes = now (codes .exit) } ≡ B.prepared (now (list .entry)) n ⌝ }
 {
-    ring::write_edge_normals(list, n, edges);
-    let sum = ring::turn_sum(list, edges, n);
+    turning::write_edge_normals(list, n, edges);
+    let sum = turning::turn_sum(list, edges, n);
     ring::write_classes(list, edges, n, !sum.is_clockwise(), codes);
     sum
 }

@@ -13,7 +13,7 @@ use borrow.Author.Tests.{lt-ltb, le-ltb, ltb-true, ltb-false, eq-eqb, ne-eqb}
 use Rattle.laws.specs.Loop.{first}
 use Rattle.laws.proofs.Copies.{length-flat}
 use Rattle.ring.specs.Ring.{cornerAt, normalAt, classAt, ringOf, normalsOf, classesOf, reversal, allBoth}
-use Rattle.ring.proofs.Edges.{size}
+use Rattle.turning.proofs.Edges.{size}
 use Rattle.header.specs.declared.Header.{Header}
 use Rattle.build.specs.Build as B
 use Rattle.build.proofs.Rooms.{list-fine}

@@ -1,3 +1,1 @@
-pub mod Edges
 pub mod Openings
-pub mod Rounds

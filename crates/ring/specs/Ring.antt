@@ -1,19 +1,18 @@
--- What a ring is made of, from the n positions of an opened list. Definitions only.
+-- What a ring is made of, from the n positions of an opened list and its edges (turning/specs/Turning). Definitions only.
 use Prim.Native.Nat.{ℕ, zero, suc, _+_, _-_, _*_, _%_}
 use mathlib.Core.Bool.{Bool, true, false, not, cond}
 use mathlib.Core.List.{List, [], _∷_}
 use lib.ListN.{length, getD}
 use lib.Dec.{eqb}
-use lib.Ieee.{Float, nan, lt}
+use lib.Ieee.{Float, lt}
 use Rattle.numbers.specs.Choice.{if_then_else_}
 use Rattle.numbers.specs.F64 as F
 use Rattle.numbers.specs.Near.{near}
-use Rattle.laws.specs.Loop.{turns, flat, anyOf}
+use Rattle.laws.specs.Loop.{flat, anyOf}
 use Rattle.vec3.specs.declared.Vec3.{Vec3}
-use Rattle.vec3.specs.Vec.{same, dot, opposite, orthogonalTo, posAt, coords}
-use Rattle.angle.specs.declared.Angle.{Angle}
-use Rattle.angle.specs.Angles.{none, plus, clockwise}
-use Rattle.base.specs.Turns.{turnOf}
+use Rattle.vec3.specs.Vec.{same, dot, opposite, posAt, coords}
+use Rattle.angle.specs.Angles.{clockwise}
+use Rattle.turning.specs.Turning.{edgeNormal, turnSum}
 
 -- document 01, "Opening": "If first equals last, one closing position goes, no more"
 abbrev pub closed : List Float → ℕ → Bool
@@ -25,27 +24,6 @@ openedIf l (suc k) = cond (closed l (suc k)) k (suc k)
 
 unfoldable pub opened : List Float → ℕ → ℕ
 opened l m = openedIf l m
-
--- a vector as it stands
-abbrev pub rawAt : List Float → ℕ → Vec3
-rawAt l i = record { x = getD l (3 * i) nan; y = getD l (3 * i + 1) nan; z = getD l (3 * i + 2) nan }
-
--- the normal of the edge from position i to the next, counted round
-unfoldable pub edgeNormal : List Float → ℕ → ℕ → Vec3
-edgeNormal l n i = orthogonalTo (posAt l i) (posAt l ((i + 1) % n))
-
-abbrev pub edgeNormals : List Float → ℕ → List Float
-edgeNormals l n = flat (λ i. coords (edgeNormal l n i)) n 0
-
--- the turn from edge i to the next edge, and the sum of all, "from the second edge on, the last turn last"
-unfoldable pub turnAt : List Float → ℕ → ℕ → Angle
-turnAt l n i = turnOf (edgeNormal l n i) (edgeNormal l n ((i + 1) % n)) (posAt l ((i + 1) % n))
-
-abbrev pub plusTurn : List Float → ℕ → ℕ → Angle → Angle
-plusTurn l n i a = plus a (turnAt l n i)
-
-unfoldable pub turnSum : List Float → ℕ → Angle
-turnSum l n = turns (plusTurn l n) n 0 none
 
 -- document 01, "Turning clockwise": "Turn sum below 0: kept. Otherwise the opened list is exactly reversed, and each edge's normal is negated, not worked out again"
 unfoldable pub reversal : List Float → ℕ → Bool

@@ -15,8 +15,9 @@ use Rattle.laws.specs.Loop.{firstOf, flat}
 use Rattle.laws.proofs.Blocks.{getD-flat}
 use Rattle.wire.specs.Wire.{u64Of}
 use Rattle.angle.specs.Angles.{weak}
-use Rattle.ring.specs.Ring.{turnSum, reversal, cornerAt, ringOf, classesOf, allBoth}
-use Rattle.ring.proofs.Edges.{size}
+use Rattle.turning.specs.Turning.{turnSum}
+use Rattle.ring.specs.Ring.{reversal, cornerAt, ringOf, classesOf, allBoth}
+use Rattle.turning.proofs.Edges.{size}
 use Rattle.cutting.specs.Cutting as C
 use Rattle.header.specs.declared.Header.{Header}
 use Rattle.header.specs.Loops.{emptyHeader, fullHeader, threesOf, shapeFault, classesFault, ringFault, cutFault}

@@ -12,7 +12,8 @@ use Rattle.base.specs.Sides.{signOf, retestOf, sideOf}
 use Rattle.base.specs.Turns.{sineOf}
 use Rattle.judge.specs.Judge.{vectorFault, faultOf}
 use Rattle.cap.specs.Caps.{meet}
-use Rattle.ring.specs.Ring.{opened, edgeNormal, turnAt, turnSum, reversal, normalAt, classBy, classAt, allBoth}
+use Rattle.turning.specs.Turning.{edgeNormal, turnAt, turnSum}
+use Rattle.ring.specs.Ring.{opened, reversal, normalAt, classBy, classAt, allBoth}
 use Rattle.ears.specs.Inside.{fits, edgeSide, fitsEdges, isCorner, insideOrEdge}
 use Rattle.ears.specs.Ears.{blocks, ear, reclass, recut, cutAt}
 use Rattle.cutting.specs.Cutting.{cutting, outOf}

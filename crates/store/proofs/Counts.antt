@@ -9,7 +9,8 @@ use lib.Dec.{ltb}
 use lib.Ieee.{Float}
 use Rattle.laws.proofs.Copies.{length-flat}
 use Rattle.angle.specs.Angles.{weak}
-use Rattle.ring.specs.Ring.{turnSum, reversal, classesOf, allBoth}
+use Rattle.turning.specs.Turning.{turnSum}
+use Rattle.ring.specs.Ring.{reversal, classesOf, allBoth}
 use Rattle.ring.proofs.Openings.{opened-le}
 use Rattle.header.specs.declared.Header.{Header}
 use Rattle.header.specs.Loops.{emptyHeader, fullHeader}

@@ -1,6 +1,6 @@
 use native.Mathlib.Omega.{arith}
 use borrow.Author.Needs.{needs}
-use Rattle.ring.proofs.Rounds.{under, over}
+use Rattle.rounds.proofs.Rounds.{under, over}
 use Rattle.ring.proofs.opposite_source.Statement.{statement}
 use Rattle.ring.proofs.opposite_source.Tie as tie
 

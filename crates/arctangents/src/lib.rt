@@ -5,7 +5,7 @@ ghost use mathlib.Core.Bool.{cond};
 ghost use lib.Ieee.{lt};
 ghost use Prim.Native.Nat.{_≤_};
 ghost use lib.ListN.{length};
-ghost use Rattle.arctangents.specs.Arctangents as A;
+ghost use Rattle.arctangents.specs.Arctangents as Atn;
 use angle::Angle;
 
 fn lesser(a: f64, b: f64) -> f64
@@ -22,7 +22,7 @@ fn greater(a: f64, b: f64) -> f64
 
 // The number from 0 to 1 whose arctangent the angle of (x, y) is made of.
 pub fn proportion(y: f64, x: f64) -> f64
-    ensures { λ r. ⌜ r ≡ A.proportion y x ⌝ }
+    ensures { λ r. ⌜ r ≡ Atn.proportion y x ⌝ }
 {
     let a = angle::size(y);
     let b = angle::size(x);
@@ -32,7 +32,7 @@ pub fn proportion(y: f64, x: f64) -> f64
 // The arctangents of k numbers from 0 to 1. The series stands in a loop with no tests, so that several are summed at once.
 pub fn write_acutes(ts: &[f64], k: usize, out: &mut [f64])
     requires { ⌜ (k ≤ 512) × (length (now ts) ≡ k) × (length (now out) ≡ k) ⌝ }
-    ensures { λ _. ⌜ now (out .exit) ≡ A.acutes (now (ts .entry)) k ⌝ }
+    ensures { λ _. ⌜ now (out .exit) ≡ Atn.acutes (now (ts .entry)) k ⌝ }
 {
     for j in 0..k {
         out[j] = angle::acute(ts[j]);
@@ -41,7 +41,7 @@ pub fn write_acutes(ts: &[f64], k: usize, out: &mut [f64])
 
 // The angle of (b, a) in the first quadrant, with the arctangent of its proportion at hand.
 fn quadrant_by(a: f64, b: f64, u: f64) -> f64
-    ensures { λ r. ⌜ r ≡ A.quadrantBy a b u ⌝ }
+    ensures { λ r. ⌜ r ≡ Atn.quadrantBy a b u ⌝ }
 {
     if a < b {
         u
@@ -58,7 +58,7 @@ fn quadrant_by(a: f64, b: f64, u: f64) -> f64
 
 // The angle of (x, y), with the arctangent of its proportion at hand.
 pub fn angle_by(y: f64, x: f64, u: f64) -> Angle
-    ensures { λ r. ⌜ r ≡ A.angleBy y x u ⌝ }
+    ensures { λ r. ⌜ r ≡ Atn.angleBy y x u ⌝ }
 {
     let r = quadrant_by(angle::size(y), angle::size(x), u);
     Angle(angle::signed(angle::minus(y), angle::turned(angle::minus(x), r)))

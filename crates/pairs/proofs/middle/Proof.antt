@@ -10,4 +10,4 @@ middle-spec =
     (tie.spec
     (λ c κs. search needs) (λ c. search needs) (λ c κs. search needs) (λ c κs. search needs)
     (λ c κs. search needs)
-    (λ c. simp (c .midpoint .ensures, c .before .at2 .ensures, c .before .before .wrap .ensures .0, c .before .before .before .at .ensures)))
+    (λ c. simp (c .midpoint .ensures, c .before .at2 .ensures, c .before .before .next .ensures .0, c .before .before .before .at .ensures)))

@@ -8,6 +8,6 @@ unfolding noCircle
 no-circle-spec =
     tie.close
     (tie.spec
-    (λ c κs. search needs) (λ c. search needs) (λ c κs. search needs) (λ c κs. search needs)
-    (λ c κs. search needs) (λ c κs. search needs)
+    (λ c κs. search needs) (λ c κs. search needs) (λ c κs. search needs) (λ c κs. search needs)
+    (λ c κs. search needs)
     (λ c. simp (c .is-antipode-of .ensures, c .before .equals .ensures, c .before .before .at2 .ensures, c .before .before .before .next .ensures .0, c .before .before .before .before .at .ensures)))

@@ -8,6 +8,6 @@ unfolding sideAt
 side-spec =
     tie.close
     (tie.spec
-    (λ c. search needs) (λ c. search needs) (λ c κs. search needs) (λ c κs. search needs) (λ c. search needs)
     (λ c κs. search needs) (λ c κs. search needs) (λ c κs. search needs) (λ c κs. search needs)
+    (λ c κs. search needs) (λ c κs. search needs)
     (λ c. let t = c .before .before .before in simp (c .side-of .ensures, c .before .at3 .ensures, c .before .before .at2 .ensures, t .next .ensures .0, t .before .at .ensures, t .before .before .previous .ensures .0)))

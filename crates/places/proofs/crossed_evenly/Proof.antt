@@ -25,7 +25,7 @@ crossed-evenly-spec =
     (λ c κs. tt)
     (λ c. turn (simp (c .new .ensures)))
     (λ c κs. (omega arith, omega arith))
-    (λ c κs. let e = c .block-end .ensures in (omega (arith, e .1), e .2, e .3, omega arith, omega arith, omega arith))
+    (λ c κs. let e = c .block-end .ensures in (omega (arith, e .1), omega (arith, e .2), e .3, omega arith, omega arith, omega arith))
     (λ c. omega (arith, c .before .block-end .ensures .1))
     (λ c. let e = c .before .block-end .ensures in
     turn-part (c .before .before .before .loop .inv) (c .pass-block .ensures) (omega (arith, e .1)) (e .3))

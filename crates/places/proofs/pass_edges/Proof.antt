@@ -20,7 +20,7 @@ pass-edges-spec =
     (tie.spec
     Inv-loop μ-loop
     (λ c. (turn-from (omega arith) refl, omega arith))
-    (λ c κs. (c .before .loop .inv .1, omega arith, omega arith, c .before .before .before .before .before .pre .5))
+    (λ c κs. (omega (arith, c .before .loop .inv .1), omega arith, omega arith, c .before .before .before .before .before .pre .5))
     (λ c κs. (omega arith, omega arith, omega arith, omega arith, c .candidate .ensures))
     (λ c κs. search needs)
     (λ c. search needs)

@@ -18,7 +18,7 @@ use Rattle.header.specs.declared.State.the-variants.{Empty, Full, Ring}
 use Rattle.header.specs.declared.Header.{Header}
 use Rattle.header.specs.Loops.{countFits, loopFault}
 use Rattle.header.proofs.Sounds.{sound}
-use Rattle.edges.specs.Places.{inTriangle}
+use Rattle.places.specs.Places.{inTriangle}
 use Rattle.ask.specs.Answers.{Told, refused, answer, judged}
 use Rattle.ask.specs.Places.{cleared, insideCode, placeNoCorner, placeWithout, placeBy, placeOf}
 use Rattle.ask.specs.Questions.{queryFault, placeAnswer}

@@ -13,7 +13,7 @@ use Rattle.cutting.specs.declared.Insides.the-variants.{Absent, Two}
 use Rattle.header.specs.declared.State.{State}
 use Rattle.header.specs.declared.State.the-variants.{Empty, Full, Ring}
 use Rattle.header.specs.declared.Header.{Header}
-use Rattle.edges.specs.Places.{insideBy, inTriangle}
+use Rattle.places.specs.Places.{insideBy, inTriangle}
 
 -- "Every position or normal handed in is made free of -0.0"
 abbrev pub cleared : Vec3 → Vec3

@@ -15,7 +15,7 @@ use Rattle.header.specs.declared.State.{State}
 use Rattle.header.specs.declared.State.the-variants.{Empty, Full, Ring}
 use Rattle.header.specs.Loops.{loopFault}
 use Rattle.edges.specs.Edges.{onEdge, hasVertex}
-use Rattle.edges.specs.Shapes.{convex, simple, sameRings}
+use Rattle.shapes.specs.Shapes.{convex, simple, sameRings}
 use Rattle.ask.specs.Answers.{Told, answer, boolTold, judged}
 use Rattle.ask.specs.Places.{cleared, placeOf}
 

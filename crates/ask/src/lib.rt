@@ -65,7 +65,7 @@ fn place_without(h: Header, positions: &[f64], normals: &[f64], p: Vec3) -> Plac
     ensures { λ r. ⌜ An.toldPlaced r ≡ An.answer (P.placeWithout h (now (positions .entry)) (now (normals .entry)) p) ⌝ }
 {
     if h.count == 3 {
-        return tell_place(edges::in_triangle(positions, normals, p));
+        return tell_place(places::in_triangle(positions, normals, p));
     }
     if h.count > 3 {
         return Placed::Mute;
@@ -84,7 +84,7 @@ fn inside_with(h: Header, a: Vec3, b: Vec3, positions: &[f64], normals: &[f64], 
     ensures { λ r. ⌜ r ≡ P.insideWith h a b (now (positions .entry)) (now (normals .entry)) p ⌝ }
 {
     let cap = h.cap;
-    edges::inside_by(
+    places::inside_by(
         cleared_cap(cap),
         clear(a),
         clear(b),
@@ -179,7 +179,7 @@ pub fn is_convex(h: Header, positions: &[f64], normals: &[f64], classes: &[u8]) 
     if f != 0 {
         return Answered::Refused(f);
     }
-    tell(edges::is_convex(positions, h.count))
+    tell(shapes::is_convex(positions, h.count))
 }
 
 // Whether a loop is simple.
@@ -190,7 +190,7 @@ pub fn is_simple(h: Header, positions: &[f64], normals: &[f64], classes: &[u8]) 
     if f != 0 {
         return Answered::Refused(f);
     }
-    tell(edges::is_simple(positions, normals, h.count))
+    tell(shapes::is_simple(positions, normals, h.count))
 }
 
 // The refusals of a first loop, and then those of a second.
@@ -242,7 +242,7 @@ pub fn equivalent(
         let other = o.state;
         return is_full(one) == is_full(other);
     }
-    edges::same_rings(positions, classes, others, codes, h.count)
+    shapes::same_rings(positions, classes, others, codes, h.count)
 }
 
 // Whether two loops have the same corners, from any corner on and in either direction.

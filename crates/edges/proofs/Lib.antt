@@ -1,4 +1,2 @@
-pub mod Above
-pub mod Nest
 pub mod Examples
 pub mod Arrays

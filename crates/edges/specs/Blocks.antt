@@ -1,9 +1,7 @@
--- A block of edges, whose candidates are worked out ahead of the tests: what the work arrays hold, and where a block ends. Definitions only.
-use Prim.Native.Nat.{ℕ, _+_, _-_}
+-- A block of edges, whose candidates are worked out ahead of the tests: what the work arrays hold. Definitions only.
+use Prim.Native.Nat.{ℕ, _+_}
 use mathlib.Core.List.{List}
-use lib.Dec.{ltb}
 use lib.Ieee.{Float}
-use Rattle.numbers.specs.Choice.{if_then_else_}
 use Rattle.laws.specs.Loop.{flat}
 use Rattle.vec3.specs.declared.Vec3.{Vec3}
 use Rattle.vec3.specs.Vec.{unitVec, stableCross, stableUnit, posAt, rawAt, coords}
@@ -28,7 +26,3 @@ unitAt l j = unitVec (rawAt l j .x) (rawAt l j .y) (rawAt l j .z)
 
 abbrev pub units : List Float → ℕ → List Float
 units l k = flat (λ j. coords (unitAt l j)) k 0
-
--- 16 edges, or those that are left
-unfoldable pub blockEnd : ℕ → ℕ → ℕ
-blockEnd from n = if ltb (n - from) 16 then n else from + 16

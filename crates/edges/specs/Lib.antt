@@ -1,4 +1,2 @@
 pub mod Edges
-pub mod Places
-pub mod Shapes
 pub mod Blocks

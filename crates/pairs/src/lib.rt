@@ -167,7 +167,7 @@ fn arc_contact(a: MinorArc, others: &[f64], theirs: &[f64], m: usize) -> Contact
     let mut touched = false;
     let mut from = 0usize;
     while from < m {
-        let to = edges::block_end(from, m);
+        let to = rounds::block_end(from, m);
         let k = block_contact(a, others, theirs, m, from, to);
         if is_crossed(k) {
             return Contact::Crossed;
@@ -227,7 +227,7 @@ fn middle(probe: &[f64], n: usize, i: usize) -> Point
     requires { ⌜ (i < n) × (n ≤ 512) × (3 * n ≤ length (now probe)) ⌝ }
     ensures { λ r. ⌜ r ≡ P.middleAt (now (probe .entry)) n i ⌝ }
 {
-    vec3::at(probe, i).midpoint(vec3::at(probe, edges::wrap(i + 1, n)))
+    vec3::at(probe, i).midpoint(vec3::at(probe, rounds::next(i, n)))
 }
 
 // Whether there is a point, and it is on no edge of the reference.

@@ -23,7 +23,7 @@ use Rattle.header.specs.declared.Header.{Header}
 use Rattle.header.specs.Loops.{countFits, loopFault}
 use Rattle.header.proofs.Shapes.{both-true}
 use Rattle.header.proofs.Sounds.{Sound, sound}
-use Rattle.edges.specs.Shapes.{agree, beside, agreeAt, allAgree, sameRings}
+use Rattle.shapes.specs.Shapes.{agree, beside, agreeAt, allAgree, sameRings}
 use Rattle.ask.specs.Answers.{answer, judged}
 use Rattle.ask.specs.Questions.{pairFault, equivalentLoops}
 use Rattle.ask.specs.Places.{clearedCap}

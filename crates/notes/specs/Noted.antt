@@ -1,14 +1,18 @@
 -- What a scene knows between two records, and what the program notes of it. Document 01, "The scene program". Definitions only.
 use Prim.Native.Nat.{ℕ, _+_, _*_, _≤_, _<_}
 use mathlib.Core.Path.{_≡_}
+use mathlib.Core.Bool.{cond}
 use mathlib.Core.List.{List}
 use lib.ListN.{length, take, getD, set}
-use lib.Dec.{eqb}
+use lib.Dec.{ltb, leb, eqb}
 use lib.Ieee.{Float}
 use Rattle.laws.specs.Loop.{firstAt}
 use Rattle.header.specs.declared.Header.{Header}
+use Rattle.records.specs.declared.Fault.the-variants.{NoNumber, Repeated, ManyAreas, ManyPositions}
 use Rattle.store.specs.declared.Area.{Area}
-use Rattle.steps.specs.declared.Notes.{Notes}
+use Rattle.notes.specs.declared.Notes.{Notes}
+use Rattle.notes.specs.declared.Judged.{Judged}
+use Rattle.notes.specs.declared.Judged.the-variants.{Fine, Bad}
 use Rattle.store.specs.Store.{nobody}
 
 -- the offset of the next record, how many were read, the areas met, the positions given, and the store with the corners used of it
@@ -67,9 +71,9 @@ pub record Addable (c : Notes) (a : Area) (count : ℕ) : Type 0 where
   pub given : c .given + count ≤ 1024
   pub corners : c .used + a .header .count ≤ 1024
 
--- the area that a header comes in as
-abbrev pub noted : Notes → ℕ → Header → Area
-noted c number h = record { number = number; start = c .used; header = h }
+-- the area that a header comes in as, its ring in the store from the corner `start` on
+abbrev pub areaAt : ℕ → ℕ → Header → Area
+areaAt start number h = record { number = number; start = start; header = h }
 
 abbrev pub addedNotes : Notes → Area → ℕ → Notes
 addedNotes c a count = record {
@@ -80,3 +84,11 @@ addedNotes c a count = record {
   used = c .used + a .header .count;
   areas = set (c .areas) (c .met) a;
 }
+
+-- whether an area may come in: "area number 0, repeated", "too many areas, positions"
+unfoldable pub judgeArea : List Area → ℕ → ℕ → ℕ → Judged
+judgeArea areas given number count =
+    cond (eqb number 0) (Bad NoNumber)
+    (cond (ltb (indexOf areas number) (length areas)) (Bad Repeated)
+    (cond (leb 16 (length areas)) (Bad ManyAreas)
+    (cond (ltb 1024 (given + count)) (Bad ManyPositions) Fine)))

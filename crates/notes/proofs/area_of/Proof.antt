@@ -1,9 +1,9 @@
 use native.Mathlib.Omega.{arith}
 use Rattle.store.specs.Store.{nobody}
-use Rattle.steps.proofs.Tables.{entry}
+use Rattle.notes.proofs.Tables.{entry}
 use borrow.Author.Needs.{needs}
-use Rattle.steps.proofs.area_of.Statement.{statement}
-use Rattle.steps.proofs.area_of.Tie as tie
+use Rattle.notes.proofs.area_of.Statement.{statement}
+use Rattle.notes.proofs.area_of.Tie as tie
 
 pub area-of-spec : {M : Type 1} → statement M
 area-of-spec =

@@ -4,10 +4,10 @@ use lib.ListN.{length, take}
 use borrow.Author.Needs.{needs}
 use borrow.Author.Tests.{eq-eqb, ne-eqb}
 use Rattle.laws.proofs.Loops.{Look, look-on, look-hit, look-end}
-use Rattle.steps.specs.Noted.{indexOf}
-use Rattle.steps.proofs.Tables.{has, has-is, looks}
-use Rattle.steps.proofs.index_of.Statement.{statement}
-use Rattle.steps.proofs.index_of.Tie as tie
+use Rattle.notes.specs.Noted.{indexOf}
+use Rattle.notes.proofs.Tables.{has, has-is, looks}
+use Rattle.notes.proofs.index_of.Statement.{statement}
+use Rattle.notes.proofs.index_of.Tie as tie
 
 abbrev Inv-loop : tie.InvT-loop
 Inv-loop number met areas i₀ i = (met ≤ 16) × (met ≤ length areas) × Look (has areas met number) met i (indexOf (take met areas) number)

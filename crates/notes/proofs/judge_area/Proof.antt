@@ -1,9 +1,9 @@
-use Rattle.steps.proofs.Steps.{met-count}
-use Rattle.steps.specs.Steps.{judgeArea}
+use Rattle.notes.proofs.Tables.{met-count}
+use Rattle.notes.specs.Noted.{judgeArea}
 use borrow.Author.Tests.{eq-eqb, ne-eqb, lt-ltb, le-ltb, le-leb, lt-leb}
 use borrow.Author.Needs.{needs}
-use Rattle.steps.proofs.judge_area.Statement.{statement}
-use Rattle.steps.proofs.judge_area.Tie as tie
+use Rattle.notes.proofs.judge_area.Statement.{statement}
+use Rattle.notes.proofs.judge_area.Tie as tie
 
 pub judge-area-spec : {M : Type 1} → statement M
 unfolding judgeArea

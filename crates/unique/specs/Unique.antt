@@ -34,7 +34,7 @@ use Rattle.building.specs.Building as Built
 use Rattle.pairing.specs.declared.Comparison.the-variants as Comparison
 use Rattle.pairing.specs.Pairing as Pairing
 use Rattle.slicing.specs.Slicing as Slicing
-use Rattle.slicing.specs.Checking as Checking
+use Rattle.accepting.specs.Checking as Checking
 use Rattle.lines.specs.Lines.{Wrote}
 use Rattle.scenes.specs.Scenes.{sceneText}
 use Rattle.exports.specs.Arcs as Bytes

@@ -1,7 +1,7 @@
-use Rattle.slicing.proofs.Lists.{not-sixes, in-sixes}
+use Rattle.accepting.proofs.Lists.{not-sixes, in-sixes}
 use borrow.Author.Needs.{needs}
-use Rattle.slicing.proofs.list_fault.Statement.{statement}
-use Rattle.slicing.proofs.list_fault.Tie as tie
+use Rattle.accepting.proofs.list_fault.Statement.{statement}
+use Rattle.accepting.proofs.list_fault.Tie as tie
 
 pub list-fault-spec : {M : Type 1} → statement M
 list-fault-spec =

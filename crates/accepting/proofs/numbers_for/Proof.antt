@@ -1,7 +1,7 @@
 use native.Mathlib.Omega.{arith}
-use Rattle.slicing.proofs.Lists.{read-all, read-some}
-use Rattle.slicing.proofs.numbers_for.Statement.{statement}
-use Rattle.slicing.proofs.numbers_for.Tie as tie
+use Rattle.accepting.proofs.Lists.{read-all, read-some}
+use Rattle.accepting.proofs.numbers_for.Statement.{statement}
+use Rattle.accepting.proofs.numbers_for.Tie as tie
 
 pub numbers-for-spec : {M : Type 1} → statement M
 numbers-for-spec =

@@ -23,7 +23,7 @@ use Rattle.frames.proofs.Faults.{frame-size, Copyable, copyable}
 use Rattle.asking.specs.Asking.{numberOf}
 use Rattle.asking.proofs.Asks.{floats-length, classes-length, check-large, is-large, large-is}
 use Rattle.asking.proofs.Calls.{gone-number}
-use Rattle.slicing.specs.Checking.{sixesFault, acceptsTold, listFault, numbersFor}
+use Rattle.accepting.specs.Checking.{sixesFault, acceptsTold, listFault, numbersFor}
 
 -- ---- in sixes
 module _ (s : List ℕ) (size : ℕ) where

@@ -1,7 +1,7 @@
-use Rattle.slicing.proofs.Lists.{list-copied}
+use Rattle.accepting.proofs.Lists.{list-copied}
 use borrow.Author.Needs.{needs}
-use Rattle.slicing.proofs.accepts_in.Statement.{statement}
-use Rattle.slicing.proofs.accepts_in.Tie as tie
+use Rattle.accepting.proofs.accepts_in.Statement.{statement}
+use Rattle.accepting.proofs.accepts_in.Tie as tie
 
 pub accepts-in-spec : {M : Type 1} → statement M
 accepts-in-spec =

@@ -4,11 +4,11 @@ use mathlib.Core.Path.{sym, refl}
 use Rattle.numbers.specs.F64 as F
 use Rattle.laws.proofs.Copies.{first-of}
 use Rattle.asking.proofs.Asks.{copies, small}
 use Rattle.slicing.proofs.Slices.{array}
-use Rattle.slicing.proofs.Lists.{list-early, list-fine, list-late, halved}
+use Rattle.accepting.proofs.Lists.{list-early, list-fine, list-late, halved}
 use borrow.Author.Needs.{needs}
-use Rattle.slicing.proofs.accepts.Statement.{statement}
-use Rattle.slicing.proofs.accepts.Tie as tie
+use Rattle.accepting.proofs.accepts.Statement.{statement}
+use Rattle.accepting.proofs.accepts.Tie as tie
 
 pub accepts-spec : {M : Type 1} → statement M
 accepts-spec =

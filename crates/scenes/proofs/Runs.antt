@@ -10,8 +10,9 @@ use lib.Ieee.{Float}
 use borrow.Author.Tests.{lt-ltb, le-ltb}
 use Rattle.laws.proofs.Loops.{left}
 use Rattle.lines.specs.declared.Line.{Line}
-use Rattle.lines.specs.Lines.{lineText, refusedLine, Wrote}
-use Rattle.lines.proofs.Writes.{then}
+use Rattle.lines.specs.Lines.{lineText, refusedLine}
+use Rattle.words.specs.Words.{Wrote}
+use Rattle.words.proofs.Writes.{then}
 use Rattle.records.proofs.Sizes.{within}
 use Rattle.notes.specs.declared.Notes.{Notes}
 use Rattle.steps.specs.declared.Outcome.{Outcome}

@@ -2,7 +2,7 @@
 ghost use mathlib.Core.Path.{_≡_};
 ghost use Prim.Native.Nat.{_≤_};
 ghost use lib.ListN.{length};
-ghost use Rattle.lines.specs.Lines.{Wrote};
+ghost use Rattle.words.specs.Words.{Wrote};
 ghost use Rattle.scenes.specs.Scenes as Sc;
 use lines::Line;
 use steps::Outcome;

@@ -35,7 +35,7 @@ use Rattle.pairing.specs.declared.Comparison.the-variants as Comparison
 use Rattle.pairing.specs.Pairing as Pairing
 use Rattle.slicing.specs.Slicing as Slicing
 use Rattle.accepting.specs.Checking as Checking
-use Rattle.lines.specs.Lines.{Wrote}
+use Rattle.words.specs.Words.{Wrote}
 use Rattle.scenes.specs.Scenes.{sceneText}
 use Rattle.exports.specs.Arcs as Bytes
 use Rattle.exports.specs.Leaves as Leaves

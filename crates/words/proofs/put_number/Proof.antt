@@ -1,9 +1,9 @@
 use native.Mathlib.Omega.{arith}
-use Rattle.lines.specs.Lines.{decimal}
-use Rattle.lines.proofs.Writes.{then}
+use Rattle.words.specs.Words.{decimal}
+use Rattle.words.proofs.Writes.{then}
 use borrow.Author.Needs.{needs}
-use Rattle.lines.proofs.put_number.Statement.{statement}
-use Rattle.lines.proofs.put_number.Tie as tie
+use Rattle.words.proofs.put_number.Statement.{statement}
+use Rattle.words.proofs.put_number.Tie as tie
 
 pub put-number-spec : {M : Type 1} → statement M
 unfolding decimal

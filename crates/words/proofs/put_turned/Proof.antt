@@ -1,7 +1,7 @@
 use native.Mathlib.Omega.{arith}
 use borrow.Author.Needs.{needs}
-use Rattle.lines.proofs.put_turned.Statement.{statement}
-use Rattle.lines.proofs.put_turned.Tie as tie
+use Rattle.words.proofs.put_turned.Statement.{statement}
+use Rattle.words.proofs.put_turned.Tie as tie
 
 pub put-turned-spec : {M : Type 1} → statement M
 put-turned-spec =

@@ -8,7 +8,7 @@ use native.Mathlib.Omega.{arith}
 use lib.ListN.{length, take, getD, set, length-append, length-set}
 use lib.Seq.{sets, take-suc, take-all, length-take-le}
 use Rattle.wire.proofs.Bytes.{sets-sets}
-use Rattle.lines.specs.Lines.{Wrote}
+use Rattle.words.specs.Words.{Wrote}
 
 -- nothing is written
 pub nothing : {o : List ℕ} {at : ℕ} → Wrote o at [] o at

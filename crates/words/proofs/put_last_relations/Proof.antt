@@ -1,8 +1,8 @@
 use native.Mathlib.Omega.{arith}
 use borrow.Author.Tests.{eq-eqb, ne-eqb}
 use borrow.Author.Needs.{needs}
-use Rattle.lines.proofs.put_last_relations.Statement.{statement}
-use Rattle.lines.proofs.put_last_relations.Tie as tie
+use Rattle.words.proofs.put_last_relations.Statement.{statement}
+use Rattle.words.proofs.put_last_relations.Tie as tie
 
 pub put-last-relations-spec : {M : Type 1} → statement M
 put-last-relations-spec =

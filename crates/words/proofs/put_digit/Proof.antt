@@ -1,9 +1,9 @@
 use native.Mathlib.Omega.{arith}
-use Rattle.lines.proofs.Writes.{nothing}
+use Rattle.words.proofs.Writes.{nothing}
 use borrow.Author.Tests.{lt-ltb, le-ltb}
 use borrow.Author.Needs.{needs}
-use Rattle.lines.proofs.put_digit.Statement.{statement}
-use Rattle.lines.proofs.put_digit.Tie as tie
+use Rattle.words.proofs.put_digit.Statement.{statement}
+use Rattle.words.proofs.put_digit.Tie as tie
 
 pub put-digit-spec : {M : Type 1} → statement M
 put-digit-spec =

@@ -20,8 +20,9 @@ use Rattle.build.proofs.Rooms.{list-fine}
 use Rattle.build.proofs.Rooms as R
 use Rattle.frames.specs.Left.{Left, left, refusalOf}
 use Rattle.frames.specs.Frames.{floatBlock, floatsAt, floatsBytes, headerBytes}
+use Rattle.frames.proofs.Faults.{by-left}
 use Rattle.frames.proofs.Lays.{two, floats-width, header-width}
-use Rattle.building.specs.Building.{leftBy, madeIf, madeOf, loopBytes, needFault, builtLeft, buildLeft, listAt, roomOf, Roomy, Fitting, front, loopLeft, outLeft, headerLeft, floatsLeft, shortHeader, Counted}
+use Rattle.building.specs.Building.{madeIf, madeOf, loopBytes, needFault, builtLeft, buildLeft, listAt, roomOf, Roomy, Fitting, front, loopLeft, outLeft, headerLeft, floatsLeft, shortHeader, Counted}
 use Rattle.building.proofs.Rooms.{Behind, behind, need-none, need-header, same-refusal, fits, fine, no-need, header-need}
 
 -- ---- the front of what was written is the loop
@@ -80,10 +81,6 @@ module _ (l ps ns : List Float) (cs : List ℕ) where
   looped-is : (k : ℕ) (h : Header) → B.loop h ≡ B.outBy k l ps ns cs .answer → k ≡ 0
   looped-is zero h e = refl
   looped-is (suc k) h e = let z : _≡_ {A = ℕ} 0 1 = cc in absurd (omega arith)
-
-by-left : (k : ℕ) (out : List ℕ) (x : Left ℕ) → (k ≡ 0 → ⊥) → left (refusalOf k) out ≡ leftBy k out x
-by-left zero out x h = absurd (h refl)
-by-left (suc k) out x h = refl
 
 module _ (l ps ns : List Float) (cs out : List ℕ) (w : Roomy (length out) (length ps) (length ns) (length cs)) {ps′ ns′ : List Float} {cs′ : List ℕ} where
   pub was-refused : {f r : ℕ} → record { answer = B.refused f; positions = ps′; normals = ns′; classes = cs′ } ≡ B.out l ps ns cs → r ≡ refusalOf f → left r out ≡ builtLeft l out

@@ -14,13 +14,8 @@ use Rattle.header.specs.declared.Header.{Header}
 use Rattle.header.specs.Loops.{emptyHeader}
 use Rattle.build.specs.Build.{listFault, openedCount, Made, made}
 use Rattle.build.specs.Build as B
-use Rattle.frames.specs.Left.{Left, left, refusalOf}
+use Rattle.frames.specs.Left.{Left, left, refusalOf, leftBy}
 use Rattle.frames.specs.Frames.{floatsAt, headerBytes, floatsBytes}
-
--- a refusal leaves the output as it was
-abbrev pub leftBy : {A : Type 0} → ℕ → List A → Left A → Left A
-leftBy zero out x = x
-leftBy (suc k) out x = left (refusalOf (suc k)) out
 
 -- the loop of a list: its header and its three lists
 abbrev pub madeIf : Bool → List Float → ℕ → Made

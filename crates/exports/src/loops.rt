@@ -7,7 +7,7 @@ ghost use Rattle.building.specs.Building as Bu;
 ghost use Rattle.asking.specs.declared.Question.the-variants as Q;
 ghost use Rattle.asking.specs.Asking as As;
 ghost use Rattle.slicing.specs.Slicing as Sl;
-ghost use Rattle.slicing.specs.Checking as Ch;
+ghost use Rattle.accepting.specs.Checking as Ch;
 use asking::Question;
 use pairing::Comparison;
 use vec3::Vec3;
@@ -92,7 +92,7 @@ pub extern "C" fn desk_triangles_f64(
 pub extern "C" fn desk_accepts(of: &[u8], triangles: &[u8]) -> u32
     ensures { λ r. ⌜ r ≡ As.numberOf (Ch.acceptsTold (now (of .entry)) (now (triangles .entry))) ⌝ }
 {
-    slicing::accepts(of, triangles)
+    accepting::accepts(of, triangles)
 }
 
 #[no_mangle]

@@ -11,6 +11,7 @@ use Rattle.laws.specs.Loop.{first}
 use Rattle.laws.proofs.Firsts.{first-zero, test-none, test-passed}
 use Rattle.header.specs.declared.State.{State}
 use Rattle.header.specs.declared.State.the-variants.{Empty, Full, Ring}
+use Rattle.frames.specs.Left.{Left, left, refusalOf, leftBy}
 use Rattle.frames.specs.Frames.{countAt, stateByte, stateOf, stateFault, sizeFault, headerFault, frameFault, largeFault, manyFault, copyFault}
 
 module _ (size n : ℕ) where
@@ -71,3 +72,8 @@ unfolding copyFault manyFault
 copyable s e =
     let a = first-zero _ _ e in
     record { framed = a .0; size = frame-size s (a .0); most = ltb-false _ _ (many-none (ltb 512 (countAt s)) (stateOf (stateByte s)) (a .1)) }
+
+-- a refusal leaves the output as it was
+pub by-left : {A : Type 0} (k : ℕ) (out : List A) (x : Left A) → (k ≡ 0 → ⊥) → left (refusalOf k) out ≡ leftBy k out x
+by-left zero out x h = absurd (h refl)
+by-left (suc k) out x h = refl

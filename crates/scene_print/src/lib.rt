@@ -1,8 +1,22 @@
 // What the scene program prints for an input, on standard output.
+ghost use mathlib.Core.Path.{_≡_};
+ghost use lib.ListN.{length};
+ghost use Rattle.scenes.specs.Scenes.{sceneText};
 use libc::STDOUT_FILENO;
 
-pub fn print(input: &[u8]) {
-    let mut out = [0u8; 393261];
+// Room for the longest text. Its `ensures` gives the length alone, so that no proof looks at so many zeros.
+fn room() -> [u8; 393261]
+    ensures { λ r. ⌜ 393261 ≡ length r ⌝ }
+{
+    [0; 393261]
+}
+
+// Prints the text of an input, and answers how long it is. No contract can say what a call of the C library wrote.
+pub fn print(input: &[u8]) -> usize
+    ensures { λ r. ⌜ r ≡ length (sceneText (now (input .entry))) ⌝ }
+{
+    let mut out = room();
     let n = scenes::run(input, &mut out);
     io::write_all(STDOUT_FILENO, &out[..n]);
+    n
 }

@@ -10,14 +10,15 @@ use lib.Ieee.{Float}
 use borrow.Author.Tests.{lt-ltb, le-ltb}
 use Rattle.laws.proofs.Loops.{left}
 use Rattle.lines.specs.declared.Line.{Line}
-use Rattle.lines.specs.Lines.{lineText, refusedLine, Wrote}
-use Rattle.lines.proofs.Writes.{then}
+use Rattle.lines.specs.Lines.{lineText, refusedLine}
+use Rattle.words.specs.Words.{Wrote}
+use Rattle.words.proofs.Writes.{then}
 use Rattle.records.proofs.Sizes.{within}
-use Rattle.steps.specs.declared.Notes.{Notes}
+use Rattle.notes.specs.declared.Notes.{Notes}
 use Rattle.steps.specs.declared.Outcome.{Outcome}
 use Rattle.steps.specs.declared.Outcome.the-variants as Outcome
 use Rattle.steps.specs.declared.Stepped.{Stepped}
-use Rattle.steps.specs.Noted.{Scene, Kept, view, Fresh}
+use Rattle.notes.specs.Noted.{Scene, Kept, view, Fresh}
 use Rattle.steps.specs.Steps.{Step, wrote, step, outcomeStep, toldStep, Ready}
 use Rattle.scenes.specs.Scenes.{textBy, linesFrom, starting, linesOf, lineOf, goesOn, Running, blankFloats, blankCodes, sceneText}
 use Rattle.steps.proofs.Goods.{Onward, onward}

@@ -2,7 +2,7 @@
 use Prim.Native.Nat.{ℕ}
 use mathlib.Core.Path.{_≡_, sym, _∙_}
 use mathlib.Core.List.{List}
-use Rattle.lines.specs.Lines.{Wrote}
+use Rattle.words.specs.Words.{Wrote}
 use Rattle.scenes.specs.Scenes.{sceneText}
 
 pub run-unique : (s out : List ℕ) {o o′ : List ℕ} {r r′ : ℕ} → Wrote out 0 (sceneText s) o r → Wrote out 0 (sceneText s) o′ r′ → (o ≡ o′) × (r ≡ r′)

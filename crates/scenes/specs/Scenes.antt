@@ -12,7 +12,7 @@ use Rattle.lines.specs.Lines.{lineText, endLine, refusedLine}
 use Rattle.records.specs.declared.Fault.{Fault}
 use Rattle.steps.specs.declared.Outcome.{Outcome}
 use Rattle.steps.specs.declared.Outcome.the-variants as Outcome
-use Rattle.steps.specs.Noted.{Scene}
+use Rattle.notes.specs.Noted.{Scene}
 use Rattle.steps.specs.Steps.{Step, step, Sized, ended, faulty, refused, wrote}
 
 -- ---- the text. "Refusal 10: cut short, unknown kind, .." whatever the fault is

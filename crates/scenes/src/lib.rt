@@ -2,7 +2,7 @@
 ghost use mathlib.Core.Path.{_≡_};
 ghost use Prim.Native.Nat.{_≤_};
 ghost use lib.ListN.{length};
-ghost use Rattle.lines.specs.Lines.{Wrote};
+ghost use Rattle.words.specs.Words.{Wrote};
 ghost use Rattle.scenes.specs.Scenes as Sc;
 use lines::Line;
 use steps::Outcome;
@@ -42,7 +42,7 @@ fn run_in(
     ensures { λ r. ⌜ Wrote (now (out .entry)) 0 (Sc.linesOf (now (s .entry)) (now (positions .entry)) (now (normals .entry)) (now (classes .entry))) (now (out .exit)) r ⌝ }
     ensures { λ r. ⌜ r ≤ 393261 ⌝ }
 {
-    let mut c = steps::fresh();
+    let mut c = notes::fresh();
     let mut written = 0;
     loop {
         let r = steps::step(s, c, positions, normals, classes);

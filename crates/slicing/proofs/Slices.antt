@@ -10,6 +10,7 @@ use lib.Dec.{ltb}
 use lib.Ieee.{Float}
 use borrow.Author.Tests.{lt-ltb, le-ltb}
 use Rattle.laws.specs.Loop.{first}
+use Rattle.laws.proofs.Loops.{first-hit}
 use Rattle.laws.proofs.Rests.{rest}
 use Rattle.laws.proofs.Copies.{first-of}
 use Rattle.cutting.specs.Cutting as C
@@ -21,12 +22,12 @@ use Rattle.header.proofs.Sounds.{Cuttable, cuttable}
 use Rattle.ask.specs.Answers.{Told, refused, answer}
 use Rattle.icosahedron.specs.Table.{triples}
 use Rattle.triangles.specs.Triangles as T
-use Rattle.frames.specs.Left.{Left, left, refusalOf}
+use Rattle.frames.specs.Left.{Left, left, refusalOf, leftBy}
 use Rattle.frames.specs.Frames.{countAt, stateByte, stateOf, headerAt, floatsAt, positionsAt, classesAt, headerFault, frameFault, largeFault, manyFault, copyFault}
-use Rattle.frames.proofs.Faults.{frame-size}
+use Rattle.frames.proofs.Faults.{frame-size, by-left}
 use Rattle.asking.specs.Asking.{numberOf}
 use Rattle.asking.proofs.Asks.{floats-length, classes-length, cut-large, is-large, large-is, copies}
-use Rattle.slicing.specs.Slicing.{leftBy, triplesOf, toldLeft, outLeft, blank, cutLeft, roomFault, partsLeft, trianglesLeft, numbersLeft, floatsLeft, Small, Array}
+use Rattle.slicing.specs.Slicing.{triplesOf, toldLeft, outLeft, blank, cutLeft, roomFault, partsLeft, trianglesLeft, numbersLeft, floatsLeft, Small, Array}
 
 -- ---- a count of triangles is small
 module _ (ps : List Float) (cs t : List ℕ) (h : length cs ≤ 512) where
@@ -62,14 +63,6 @@ counted h ps cs t {u} e = subst (λ (x : Told). Small x) (sym (ap (λ (o : T.Out
 pub slid : {o : T.Out} {u : Told} {l : List ℕ} {x : Left ℕ} (out : List ℕ) → record { answer = u; triangles = l } ≡ o → x ≡ toldLeft u l out → x ≡ outLeft o out
 slid out e q = q ∙ ap (λ (o : T.Out). outLeft o out) e
 
-by-left : {A : Type 0} (k : ℕ) (out : List A) (x : Left A) → (k ≡ 0 → ⊥) → left (refusalOf k) out ≡ leftBy k out x
-by-left zero out x h = absurd (h refl)
-by-left (suc k) out x h = refl
-
-first-left : (a b : ℕ) → (a ≡ 0 → ⊥) → first a b ≡ a
-first-left zero b h = absurd (h refl)
-first-left (suc a) b h = refl
-
 take-same : {A : Type 0} (a : A) (k m : ℕ) → k ≤ m → take k (replicate m a) ≡ replicate k a
 take-same a zero m h = refl
 take-same a (suc k) zero h = absurd (not-suc-le-zero h)
@@ -82,7 +75,7 @@ front-blank m {k} h = take-same 0 k m h
 module _ (h : Header) (ps : List Float) (cs out : List ℕ) {f : ℕ} (e : f ≡ cutFault h ps cs) where
   pub parts-refused : {r : ℕ} → (f ≡ 0 → ⊥) → r ≡ refusalOf f → left r out ≡ partsLeft h ps cs out
   unfolding partsLeft
-  parts-refused n q = rw (q, ← e, first-left f (roomFault h (length out)) n) (by-left f out _ n)
+  parts-refused n q = rw (q, ← e, first-hit f (roomFault h (length out)) n) (by-left f out _ n)
 
   module _ {m : ℕ} (z : f ≡ 0) (t : m ≡ triplesOf h) where
     pub few : h .count ≤ 512

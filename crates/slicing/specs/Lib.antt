@@ -1,2 +1,1 @@
 pub mod Slicing
-pub mod Checking

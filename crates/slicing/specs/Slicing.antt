@@ -16,14 +16,9 @@ use Rattle.header.specs.Loops.{cutFault}
 use Rattle.ask.specs.Answers.{Told, refused, answer}
 use Rattle.triangles.specs.declared.Cut.{Cut}
 use Rattle.triangles.specs.Triangles as T
-use Rattle.frames.specs.Left.{Left, left, refusalOf}
+use Rattle.frames.specs.Left.{Left, left, refusalOf, leftBy}
 use Rattle.frames.specs.Frames.{countAt, headerAt, positionsAt, classesAt, numbersBytes, headerFault, frameFault}
 use Rattle.asking.specs.Asking.{numberOf}
-
--- a refusal leaves the output as it was
-abbrev pub leftBy : {A : Type 0} → ℕ → List A → Left A → Left A
-leftBy zero out x = x
-leftBy (suc k) out x = left (refusalOf (suc k)) out
 
 -- how many triangles a loop has: none, 20 or n - 2
 abbrev pub triplesBy : State → ℕ → ℕ

@@ -19,13 +19,13 @@ use Rattle.records.specs.declared.Read.the-variants as Read
 use Rattle.records.specs.Records.{readAt, sizeOf}
 use Rattle.records.proofs.Sizes.{within}
 use Rattle.store.specs.declared.Area.{Area}
-use Rattle.steps.specs.declared.Judged.{Judged}
-use Rattle.steps.specs.declared.Judged.the-variants.{Fine, Bad}
-use Rattle.steps.specs.Noted.{Scene}
+use Rattle.notes.specs.declared.Judged.{Judged}
+use Rattle.notes.specs.declared.Judged.the-variants.{Fine, Bad}
+use Rattle.notes.specs.Noted.{Scene, areaAt, judgeArea}
 use Rattle.store.specs.Store.{nobody, placeIn, pairIn}
-use Rattle.steps.specs.Steps.{Step, faulty, wrote, passedBy, judgeArea, withArea, areaOf, areaTold, areaOut, areaMade, areaBy, areaStep, isMet, met, placeTold, placeStep, pairTold, pairStep, stepBy, step, Good}
+use Rattle.steps.specs.Steps.{Step, faulty, wrote, passedBy, withArea, areaTold, areaOut, areaMade, areaBy, areaStep, isMet, met, placeTold, placeStep, pairTold, pairStep, stepBy, step, Good}
 use Rattle.store.proofs.Counts.{built-count}
-use Rattle.steps.proofs.Steps.{allowed}
+use Rattle.notes.proofs.Tables.{allowed}
 
 -- the scene after a record
 pub record Onward (s : List ℕ) (w v : Scene) : Type 0 where
@@ -75,7 +75,7 @@ module _ {s : List ℕ} {w : Scene} (g : Good s w) where
         → (t : B.Told) → t ≡ areaOut s w count .answer → areaTold w number count (areaOut s w count) t ≡ wrote l v → Onward s w v
     area-on number count f h (B.refused k) q e = absurd (let z : _≡_ {A = ℕ} 0 1 = cc in omega arith)
     area-on number count f h (B.loop k) q e =
-        let a = areaOf w number k in
+        let a = areaAt (w .used) number k in
         let m = allowed (w .areas) (w .given) number count f in
         let c : k .count ≤ count = built-count s (w .at + 8) count (w .used) (w .positions) (w .normals) (w .classes) q in
         let d : withArea w a count (areaOut s w count) ≡ v = cc in

@@ -23,26 +23,17 @@ use Rattle.records.specs.declared.Fault.{Fault}
 use Rattle.records.specs.declared.Fault.the-variants.{NoNumber, Repeated, NotMet, ManyAreas, ManyPositions}
 use Rattle.records.specs.Records.{floatsAt}
 use Rattle.store.specs.declared.Area.{Area}
-use Rattle.steps.specs.declared.Notes.{Notes}
-use Rattle.steps.specs.declared.Judged.{Judged}
-use Rattle.steps.specs.declared.Judged.the-variants.{Fine, Bad}
+use Rattle.notes.specs.declared.Notes.{Notes}
+use Rattle.notes.specs.declared.Judged.{Judged}
+use Rattle.notes.specs.declared.Judged.the-variants.{Fine, Bad}
 use Rattle.steps.specs.declared.Outcome.{Outcome}
 use Rattle.steps.specs.declared.Outcome.the-variants as Outcome
 use Rattle.steps.specs.declared.Stepped.{Stepped}
-use Rattle.steps.specs.Noted.{Scene, indexOf, Kept, areasOf, view, passedNotes, Addable, noted, addedNotes}
+use Rattle.notes.specs.Noted.{Scene, indexOf, Kept, areasOf, view, passedNotes, Addable, areaAt, addedNotes, judgeArea}
+use Rattle.notes.proofs.Tables.{met-count, Allowed, allowed}
 use Rattle.store.specs.Store.{nobody, builtAt, triangleCount, placeIn, pairIn, Lies, Room}
-use Rattle.steps.specs.Steps.{Step, faulty, refused, judgeArea, areaMade, areaStep, placeTold, placeStep, pairTold, pairStep, Good, outcomeStep, toldStep, placeOutcome, pairOutcome, Sized, Ready}
+use Rattle.steps.specs.Steps.{Step, faulty, refused, areaMade, areaStep, placeTold, placeStep, pairTold, pairStep, Good, outcomeStep, toldStep, placeOutcome, pairOutcome, Sized, Ready}
 use Rattle.store.proofs.Counts.{built-count}
-
-pub met-count : (c : Notes) → Kept c → length (areasOf c) ≡ c .met
-met-count c k = length-take-le (c .met) (c .areas) (omega (arith, k .few, k .size))
-
--- the table after a record
-pub kept-passed : {c n : Notes} (size : ℕ) → Kept c → n ≡ passedNotes c size → Kept n
-kept-passed size k e = record { few = rw e (k .few); size = rw e (k .size) }
-
-pub kept-added : {c : Notes} {a : Area} {count : ℕ} → Kept c → Addable c a count → Kept (addedNotes c a count)
-kept-added k x = record { few = omega (arith, x .place); size = simp length-set (k .size) }
 
 -- an area that was met lies in the store
 pub lies : {s : List ℕ} {w : Scene} → Good s w → Sized (length (w .positions)) (length (w .normals)) (length (w .classes)) → (i : ℕ) → i < length (w .areas) → Lies (getD (w .areas) i nobody) (w .positions) (w .normals) (w .classes)
@@ -99,23 +90,6 @@ module _ {s : List ℕ} {c : Notes} {size : ℕ} {ps ns : List Float} {cs : List
       rw (en, eo, ← e, ← f, met-count c (r .kept), lt-ltb _ _ h, lt-ltb _ _ g, ← ea, ← eb, ← et) (pair-same t number other)
 
 -- ---- an area that may come in
-fine-told : (a b c d : Bool) → Fine ≡ cond a (Bad NoNumber) (cond b (Bad Repeated) (cond c (Bad ManyAreas) (cond d (Bad ManyPositions) Fine))) → (c ≡ false) × (d ≡ false)
-fine-told true b c d e = (cc, cc)
-fine-told false true c d e = (cc, cc)
-fine-told false false true d e = (cc, cc)
-fine-told false false false true e = (cc, cc)
-fine-told false false false false e = (refl, refl)
-
-pub record Allowed (met given count : ℕ) : Type 0 where
-  pub place : met < 16
-  pub few : given + count ≤ 1024
-
-pub allowed : (areas : List Area) (given number count : ℕ) → Fine ≡ judgeArea areas given number count → Allowed (length areas) given count
-unfolding judgeArea
-allowed areas given number count e =
-    let t = fine-told (eqb number 0) (ltb (indexOf areas number) (length areas)) (leb 16 (length areas)) (ltb 1024 (given + count)) e in
-    record { place = leb-false _ _ (t .0); few = ltb-false _ _ (t .1) }
-
 module _ {s : List ℕ} {c : Notes} {ps ns : List Float} {cs : List ℕ} (number count : ℕ) (r : Ready s c (8 + 24 * count) ps ns cs) (f : Fine ≡ judgeArea (areasOf c) (c .given) number count) where
   may : Allowed (c .met) (c .given) count
   may = rw (met-count c (r .kept)) at (allowed (areasOf c) (c .given) number count f)
@@ -144,7 +118,7 @@ module _ {s : List ℕ} {c : Notes} {ps ns : List Float} {cs : List ℕ} (number
       fits : h .count ≤ count
       fits = built-count s (c .at + 8) count (c .used) ps ns cs (sym (ap B.told q) ∙ ap (λ (o : B.Out). o .answer) e)
 
-      pub addable : Addable c (noted c number h) count
+      pub addable : Addable c (areaAt (c .used) number h) count
       addable = record {
         place = may .place;
         end = omega (arith, r .whole, r .good .small);
@@ -153,15 +127,15 @@ module _ {s : List ℕ} {c : Notes} {ps ns : List Float} {cs : List ℕ} (number
         corners = omega (arith, fits, may .few, r .good .used-given);
       }
 
-      pub new-lies : length ps′ ≡ length ps → length ns′ ≡ length ns → length cs′ ≡ length cs → Lies (noted c number h) ps′ ns′ cs′
+      pub new-lies : length ps′ ≡ length ps → length ns′ ≡ length ns → length cs′ ≡ length cs → Lies (areaAt (c .used) number h) ps′ ns′ cs′
       new-lies p n k = record { ends = addable .corners; positions-size = p ∙ r .sized .of-positions; normals-size = n ∙ r .sized .of-normals; classes-size = k ∙ r .sized .of-classes }
 
-      pub area-looped : {n : Stepped} → n ≡ record { outcome = Outcome.Line (Line.Area number h (triangleCount (noted c number h) ps′ cs′)); next = addedNotes c (noted c number h) count }
+      pub area-looped : {n : Stepped} → n ≡ record { outcome = Outcome.Line (Line.Area number h (triangleCount (areaAt (c .used) number h) ps′ cs′)); next = addedNotes c (areaAt (c .used) number h) count }
           → toldStep n ps′ ns′ cs′ ≡ areaMade s (view c ps ns cs) number count
       unfolding areaMade
       area-looped v =
           let g : c .met < length (c .areas) = omega (arith, may .place, r .kept .size) in
-          rw (v, ← e, q, add-one (c .met), take-suc-set (c .areas) (c .met) (noted c number h) g)
+          rw (v, ← e, q, add-one (c .met), take-suc-set (c .areas) (c .met) (areaAt (c .used) number h) g)
 
 pub area-bad : (s : List ℕ) (w : Scene) (number count : ℕ) {j : Judged} {f : Fault} → j ≡ judgeArea (w .areas) (w .given) number count → j ≡ Bad f → faulty f ≡ areaStep s w number count
 unfolding areaStep

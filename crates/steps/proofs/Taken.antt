@@ -6,8 +6,8 @@ use lib.Ieee.{Float}
 use Rattle.records.specs.declared.Read.{Read}
 use Rattle.records.specs.Records.{readAt, sizeOf}
 use Rattle.records.proofs.Sizes.{within}
-use Rattle.steps.specs.declared.Notes.{Notes}
-use Rattle.steps.specs.Noted.{Scene}
+use Rattle.notes.specs.declared.Notes.{Notes}
+use Rattle.notes.specs.Noted.{Scene}
 use Rattle.steps.specs.Steps.{Step, stepBy, step, Ready}
 
 pub ready-on : {s : List ℕ} {c : Notes} {ps ns : List Float} {cs : List ℕ} {r x : Read} → Ready s c 0 ps ns cs → r ≡ readAt s (c .at) → r ≡ x → Ready s c (sizeOf x) ps ns cs

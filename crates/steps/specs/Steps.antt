@@ -15,18 +15,18 @@ use Rattle.ask.specs.Answers as Ask
 use Rattle.lines.specs.declared.Line.{Line}
 use Rattle.lines.specs.declared.Line.the-variants as Line
 use Rattle.records.specs.declared.Fault.{Fault}
-use Rattle.records.specs.declared.Fault.the-variants.{NoNumber, Repeated, NotMet, ManyAreas, ManyPositions}
+use Rattle.records.specs.declared.Fault.the-variants.{NotMet}
 use Rattle.records.specs.declared.Read.{Read}
 use Rattle.records.specs.declared.Read.the-variants as Read
 use Rattle.records.specs.Records.{readAt, floatsAt}
 use Rattle.store.specs.declared.Area.{Area}
-use Rattle.steps.specs.declared.Notes.{Notes}
-use Rattle.steps.specs.declared.Judged.{Judged}
-use Rattle.steps.specs.declared.Judged.the-variants.{Fine, Bad}
+use Rattle.notes.specs.declared.Notes.{Notes}
+use Rattle.notes.specs.declared.Judged.{Judged}
+use Rattle.notes.specs.declared.Judged.the-variants.{Fine, Bad}
 use Rattle.steps.specs.declared.Stepped.{Stepped}
 use Rattle.steps.specs.declared.Outcome.{Outcome}
 use Rattle.steps.specs.declared.Outcome.the-variants as Outcome
-use Rattle.steps.specs.Noted.{Scene, indexOf, Kept, view}
+use Rattle.notes.specs.Noted.{Scene, indexOf, Kept, view, areaAt, judgeArea}
 use Rattle.store.specs.Store.{nobody, builtAt, triangleCount, placeIn, pairIn}
 
 -- what a record comes to: there is none, its fault, a call's own refusal, or its line and the scene after it
@@ -49,14 +49,7 @@ passedBy size w = record {
   classes = w .classes;
 }
 
--- ---- kind 1: "area number 0, repeated", "too many areas, positions"
-unfoldable pub judgeArea : List Area → ℕ → ℕ → ℕ → Judged
-judgeArea areas given number count =
-    cond (eqb number 0) (Bad NoNumber)
-    (cond (ltb (indexOf areas number) (length areas)) (Bad Repeated)
-    (cond (leb 16 (length areas)) (Bad ManyAreas)
-    (cond (ltb 1024 (given + count)) (Bad ManyPositions) Fine)))
-
+-- ---- kind 1
 -- the scene with one area more
 abbrev pub withArea : Scene → Area → ℕ → Out → Scene
 withArea w a count o = record {
@@ -70,13 +63,10 @@ withArea w a count o = record {
   classes = o .classes;
 }
 
-abbrev pub areaOf : Scene → ℕ → Header → Area
-areaOf w number h = record { number = number; start = w .used; header = h }
-
 -- "each area's ring goes into the still unused rest of one lent store"
 abbrev pub areaTold : Scene → ℕ → ℕ → Out → B.Told → Step
 areaTold w number count o (B.refused k) = refused k
-areaTold w number count o (B.loop h) = wrote (Line.Area number h (triangleCount (areaOf w number h) (o .positions) (o .classes))) (withArea w (areaOf w number h) count o)
+areaTold w number count o (B.loop h) = wrote (Line.Area number h (triangleCount (areaAt (w .used) number h) (o .positions) (o .classes))) (withArea w (areaAt (w .used) number h) count o)
 
 abbrev pub areaOut : List ℕ → Scene → ℕ → Out
 areaOut s w count = builtAt (floatsAt s (w .at + 8) count) (w .used) (w .positions) (w .normals) (w .classes)

@@ -5,32 +5,18 @@ ghost use lib.ListN.{length, getD};
 ghost use Rattle.ask.specs.Answers.{toldPlaced};
 ghost use Rattle.relate.specs.Relations.{toldRelated};
 ghost use Rattle.store.specs.Store as St;
-ghost use Rattle.steps.specs.Noted as N;
+ghost use Rattle.notes.specs.Noted as N;
 ghost use Rattle.steps.specs.Steps as S;
 use ask::Placed;
 use build::Built;
 use header::Header;
 use lines::Line;
+use notes::Judged;
+use notes::Notes;
 use records::Fault;
 use records::Read;
 use relate::Related;
 use store::Area;
-
-// What is known between two records, beside the store.
-pub struct Notes {
-    pub at: usize,
-    pub records: usize,
-    pub met: usize,
-    pub given: usize,
-    pub used: usize,
-    pub areas: [Area; 16],
-}
-
-// Whether an area may come in.
-pub enum Judged {
-    Fine,
-    Bad(Fault),
-}
 
 // What a record comes to: there is none, its fault, a call's own refusal, or its line.
 pub enum Outcome {
@@ -46,104 +32,6 @@ pub struct Stepped {
     pub next: Notes,
 }
 
-// The place of a number among the areas met, or how many there are.
-fn index_of(c: Notes, number: usize) -> usize
-    requires { ⌜ N.Kept c ⌝ }
-    ensures { λ r. ⌜ r ≡ N.indexOf (N.areasOf c) number ⌝ }
-    ensures { λ r. ⌜ r ≤ c .met ⌝ }
-{
-    let met = c.met;
-    let areas = c.areas;
-    for i in 0..met {
-        if areas[i].number == number {
-            return i;
-        }
-    }
-    met
-}
-
-fn area_of(c: Notes, i: usize) -> Area
-    requires { ⌜ (i < c .met) × N.Kept c ⌝ }
-    ensures { λ r. ⌜ r ≡ getD (N.areasOf c) i St.nobody ⌝ }
-{
-    let areas = c.areas;
-    areas[i]
-}
-
-// A scene's notes before its first record.
-pub fn fresh() -> Notes
-    ensures { λ r. ⌜ N.Fresh r ⌝ }
-{
-    let nobody = Area {
-        number: 0,
-        start: 0,
-        header: header::empty(),
-    };
-    Notes {
-        at: 0,
-        records: 0,
-        met: 0,
-        given: 0,
-        used: 0,
-        areas: [nobody; 16],
-    }
-}
-
-// The notes after a record of `size` bytes that brought no area.
-fn passed(c: Notes, size: usize) -> Notes
-    requires { ⌜ (c .at + size ≤ 65536) × (c .records ≤ 65536) ⌝ }
-    ensures { λ r. ⌜ r ≡ N.passedNotes c size ⌝ }
-{
-    let areas = c.areas;
-    Notes {
-        at: c.at + size,
-        records: c.records + 1,
-        met: c.met,
-        given: c.given,
-        used: c.used,
-        areas,
-    }
-}
-
-// The notes after an area of `count` given positions.
-fn added(c: Notes, a: Area, count: usize) -> Notes
-    requires { ⌜ N.Addable c a count ⌝ }
-    ensures { λ r. ⌜ r ≡ N.addedNotes c a count ⌝ }
-{
-    let met = c.met;
-    let mut areas = c.areas;
-    let h = a.header;
-    areas[met] = a;
-    Notes {
-        at: c.at + 8 + 24 * count,
-        records: c.records + 1,
-        met: met + 1,
-        given: c.given + count,
-        used: c.used + h.count,
-        areas,
-    }
-}
-
-// Faults of an area record, ahead of the builder's refusals.
-fn judge_area(c: Notes, number: usize, count: usize) -> Judged
-    requires { ⌜ N.Kept c × (c .given ≤ 1024) × (count ≤ 65536) ⌝ }
-    ensures { λ r. ⌜ r ≡ S.judgeArea (N.areasOf c) (c .given) number count ⌝ }
-{
-    if number == 0 {
-        return Judged::Bad(Fault::NoNumber);
-    }
-    if index_of(c, number) < c.met {
-        return Judged::Bad(Fault::Repeated);
-    }
-    if 16 <= c.met {
-        return Judged::Bad(Fault::ManyAreas);
-    }
-    if 1024 < c.given + count {
-        return Judged::Bad(Fault::ManyPositions);
-    }
-    Judged::Fine
-}
-
 // The line of an area that was built, and the notes with it.
 fn area_line(
     c: Notes,
@@ -154,8 +42,8 @@ fn area_line(
     normals: &[f64],
     classes: &[u8],
 ) -> Stepped
-    requires { ⌜ St.Lies (N.noted c number h) (now positions) (now normals) (now classes) × N.Addable c (N.noted c number h) count ⌝ }
-    ensures { λ r. ⌜ r ≡ record { outcome = Outcome.Line (Line.Area number h (St.triangleCount (N.noted c number h) (now (positions .entry)) (now (classes .entry)))); next = N.addedNotes c (N.noted c number h) count } ⌝ }
+    requires { ⌜ St.Lies (N.areaAt (c .used) number h) (now positions) (now normals) (now classes) × N.Addable c (N.areaAt (c .used) number h) count ⌝ }
+    ensures { λ r. ⌜ r ≡ record { outcome = Outcome.Line (Line.Area number h (St.triangleCount (N.areaAt (c .used) number h) (now (positions .entry)) (now (classes .entry)))); next = N.addedNotes c (N.areaAt (c .used) number h) count } ⌝ }
 {
     let a = Area {
         number,
@@ -165,7 +53,7 @@ fn area_line(
     let triangles = store::triangle_count(a, positions, normals, classes);
     Stepped {
         outcome: Outcome::Line(Line::Area(number, h, triangles)),
-        next: added(c, a, count),
+        next: notes::added(c, a, count),
     }
 }
 
@@ -179,7 +67,7 @@ fn area_made(
     normals: &mut [f64],
     classes: &mut [u8],
 ) -> Stepped
-    requires { ⌜ S.Ready (now s) c (8 + 24 * count) (now positions) (now normals) (now classes) × (Judged.Fine ≡ S.judgeArea (N.areasOf c) (c .given) number count) ⌝ }
+    requires { ⌜ S.Ready (now s) c (8 + 24 * count) (now positions) (now normals) (now classes) × (Judged.Fine ≡ N.judgeArea (N.areasOf c) (c .given) number count) ⌝ }
     ensures { λ r. ⌜ S.toldStep r (now (positions .exit)) (now (normals .exit)) (now (classes .exit)) ≡ S.areaMade (now (s .entry)) (N.view c (now (positions .entry)) (now (normals .entry)) (now (classes .entry))) number count ⌝ }
     ensures { λ r. ⌜ N.Kept (r .next) ⌝ }
 {
@@ -205,7 +93,7 @@ fn area_step(
     ensures { λ r. ⌜ S.toldStep r (now (positions .exit)) (now (normals .exit)) (now (classes .exit)) ≡ S.areaStep (now (s .entry)) (N.view c (now (positions .entry)) (now (normals .entry)) (now (classes .entry))) number count ⌝ }
     ensures { λ r. ⌜ N.Kept (r .next) ⌝ }
 {
-    match judge_area(c, number, count) {
+    match notes::judge_area(c, number, count) {
         Judged::Bad(f) => Stepped {
             outcome: Outcome::Bad(f),
             next: c,
@@ -238,19 +126,19 @@ fn place_step(
     ensures { λ r. ⌜ S.toldStep r (now (positions .entry)) (now (normals .entry)) (now (classes .entry)) ≡ S.placeStep (now (s .entry)) (N.view c (now (positions .entry)) (now (normals .entry)) (now (classes .entry))) number ⌝ }
     ensures { λ r. ⌜ N.Kept (r .next) ⌝ }
 {
-    let i = index_of(c, number);
+    let i = notes::index_of(c, number);
     if c.met <= i {
         return Stepped {
             outcome: Outcome::Bad(Fault::NotMet),
             next: c,
         };
     }
-    let a = area_of(c, i);
+    let a = notes::area_of(c, i);
     let p = wire::vec_at(s, c.at + 8);
     let placed = store::place_in(a, positions, normals, classes, p);
     Stepped {
         outcome: place_told(placed, number),
-        next: passed(c, 32),
+        next: notes::passed(c, 32),
     }
 }
 
@@ -282,26 +170,26 @@ fn pair_step(
     ensures { λ r. ⌜ S.toldStep r (now (positions .entry)) (now (normals .entry)) (now (classes .entry)) ≡ S.pairStep (N.view c (now (positions .entry)) (now (normals .entry)) (now (classes .entry))) number other ⌝ }
     ensures { λ r. ⌜ N.Kept (r .next) ⌝ }
 {
-    let i = index_of(c, number);
+    let i = notes::index_of(c, number);
     if c.met <= i {
         return Stepped {
             outcome: Outcome::Bad(Fault::NotMet),
             next: c,
         };
     }
-    let j = index_of(c, other);
+    let j = notes::index_of(c, other);
     if c.met <= j {
         return Stepped {
             outcome: Outcome::Bad(Fault::NotMet),
             next: c,
         };
     }
-    let a = area_of(c, i);
-    let b = area_of(c, j);
+    let a = notes::area_of(c, i);
+    let b = notes::area_of(c, j);
     let related = store::pair_in(a, b, positions, normals, classes);
     Stepped {
         outcome: pair_told(related, number, other),
-        next: passed(c, 10),
+        next: notes::passed(c, 10),
     }
 }
 

@@ -19,7 +19,7 @@ use Rattle.triangles.specs.Triangles.{toldCut}
 use Rattle.relate.specs.declared.Related.{Related}
 use Rattle.relate.specs.declared.Related.the-variants as Related
 use Rattle.relate.specs.Relations.{toldRelated}
-use Rattle.lines.specs.Lines.{Wrote}
+use Rattle.words.specs.Words.{Wrote}
 use Rattle.scenes.specs.Scenes.{sceneText}
 use Rattle.scenes.proofs.Unique.{run-unique}
 use Rattle.unique.specs.Unique.{One, OneToOne, BuildEnd, toldBuild, CutEnd, toldEnd, RunEnd, Definitions, OfArcs, OfLoops, OfExports, OfScenes, Unique}

@@ -34,8 +34,8 @@ use Rattle.building.specs.Building as Built
 use Rattle.pairing.specs.declared.Comparison.the-variants as Comparison
 use Rattle.pairing.specs.Pairing as Pairing
 use Rattle.slicing.specs.Slicing as Slicing
-use Rattle.slicing.specs.Checking as Checking
-use Rattle.lines.specs.Lines.{Wrote}
+use Rattle.accepting.specs.Checking as Checking
+use Rattle.words.specs.Words.{Wrote}
 use Rattle.scenes.specs.Scenes.{sceneText}
 use Rattle.exports.specs.Arcs as Bytes
 use Rattle.exports.specs.Leaves as Leaves

@@ -1,6 +1,6 @@
 use native.Mathlib.Omega.{arith}
 use Rattle.lines.specs.Lines.{endLine}
-use Rattle.lines.proofs.Writes.{then}
+use Rattle.words.proofs.Writes.{then}
 use borrow.Author.Needs.{needs}
 use Rattle.lines.proofs.put_end.Statement.{statement}
 use Rattle.lines.proofs.put_end.Tie as tie

@@ -1,5 +1,5 @@
 use native.Mathlib.Omega.{arith}
-use Rattle.lines.proofs.Writes.{then}
+use Rattle.words.proofs.Writes.{then}
 use borrow.Author.Needs.{needs}
 use Rattle.lines.proofs.put_marks.Statement.{statement}
 use Rattle.lines.proofs.put_marks.Tie as tie

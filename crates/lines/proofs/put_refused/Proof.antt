@@ -1,6 +1,6 @@
 use native.Mathlib.Omega.{arith}
 use Rattle.lines.specs.Lines.{refusedLine}
-use Rattle.lines.proofs.Writes.{then}
+use Rattle.words.proofs.Writes.{then}
 use borrow.Author.Needs.{needs}
 use Rattle.lines.proofs.put_refused.Statement.{statement}
 use Rattle.lines.proofs.put_refused.Tie as tie

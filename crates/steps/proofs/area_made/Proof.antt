@@ -1,4 +1,5 @@
-use Rattle.steps.proofs.Steps.{room, area-refused, addable, new-lies, area-looped, kept-added}
+use Rattle.steps.proofs.Steps.{room, area-refused, addable, new-lies, area-looped}
+use Rattle.notes.proofs.Tables.{kept-added}
 use borrow.Author.Needs.{needs}
 use Rattle.steps.proofs.area_made.Statement.{statement}
 use Rattle.steps.proofs.area_made.Tie as tie

@@ -1,4 +1,5 @@
-use Rattle.steps.proofs.Steps.{area-lies, passable, pair-missing, pair-half, pair-met, kept-passed}
+use Rattle.steps.proofs.Steps.{area-lies, passable, pair-missing, pair-half, pair-met}
+use Rattle.notes.proofs.Tables.{kept-passed}
 use borrow.Author.Needs.{needs}
 use Rattle.steps.proofs.pair_step.Statement.{statement}
 use Rattle.steps.proofs.pair_step.Tie as tie

@@ -1,4 +1,5 @@
-use Rattle.steps.proofs.Steps.{area-lies, passable, place-missing, place-met, kept-passed}
+use Rattle.steps.proofs.Steps.{area-lies, passable, place-missing, place-met}
+use Rattle.notes.proofs.Tables.{kept-passed}
 use borrow.Author.Needs.{needs}
 use Rattle.steps.proofs.place_step.Statement.{statement}
 use Rattle.steps.proofs.place_step.Tie as tie

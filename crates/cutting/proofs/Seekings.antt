@@ -10,8 +10,9 @@ use lib.Seq.{take-length}
 use Rattle.rings.specs.Ring.{without, earOf}
 use Rattle.vec3.specs.declared.Point.{Point}
 use Rattle.vec3.specs.declared.Point.the-variants.{Absent, At}
-use Rattle.ears.specs.Ears.{Lent, lowest, triangleAt, Remaining, cutAt, cutIn}
-use Rattle.ears.specs.Apart.{apartOf}
+use Rattle.ears.specs.Ears.{Lent, triangleAt, Remaining, cutAt, cutIn}
+use Rattle.apart.specs.Lowest.{lowest}
+use Rattle.apart.specs.Apart.{apartOf}
 use Rattle.cutting.specs.declared.Found.{Found}
 use Rattle.cutting.specs.declared.Found.the-variants as F
 use Rattle.cutting.specs.declared.Insides.{Insides}

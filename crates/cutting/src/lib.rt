@@ -61,8 +61,8 @@ fn put_ear(ids: &[u16], i: usize, triangles: &mut [u16], t: usize)
     ensures { λ _. ⌜ now (triangles .exit) ≡ sets (now (triangles .entry)) (3 * t) (earOf (now (ids .entry)) i) ⌝ }
 {
     let m = ids.len();
-    let a = ears::prior(m, i);
-    let b = ears::later(m, i);
+    let a = rounds::previous(i, m);
+    let b = rounds::next(i, m);
     triangles[3 * t] = ids[a];
     triangles[3 * t + 1] = ids[i];
     triangles[3 * t + 2] = ids[b];
@@ -79,16 +79,16 @@ fn cut_all(
     requires { ⌜ Lent (now ps) (now ids) (now classes) × (3 ≤ length (now ids)) × (length (now ids) ≤ length (now apart)) × (3 * (length (now ids) - 2) ≤ length (now triangles)) ⌝ }
     ensures { λ r. ⌜ record { answer = r; out = now (triangles .exit) } ≡ laid (cuttingFrom (now (ps .entry)) (record { ids = now (ids .entry); classes = now (classes .entry) })) (now (triangles .entry)) ⌝ }
 {
-    let mut k = ears::list_apart(ids, classes, apart);
+    let mut k = apart::list_apart(ids, classes, apart);
     let mut m = ids.len();
     let mut t = 0;
     while 3 < m {
-        let i = ears::lowest_ear(ps, &ids[..m], classes, &apart[..k]);
+        let i = apart::lowest_ear(ps, &ids[..m], classes, &apart[..k]);
         if i == m {
             return false;
         }
         put_ear(&ids[..m], i, triangles, t);
-        k = ears::cut_apart(ps, &mut ids[..m], classes, apart, k, i);
+        k = apart::cut_apart(ps, &mut ids[..m], classes, apart, k, i);
         m -= 1;
         t += 1;
     }
@@ -236,11 +236,11 @@ fn find_means(ps: &[f64], ids: &mut [u16], classes: &mut [u8], apart: &mut [u16]
     requires { ⌜ Lent (now ps) (now ids) (now classes) × (3 ≤ length (now ids)) × (length (now ids) ≤ length (now apart)) ⌝ }
     ensures { λ r. ⌜ r ≡ meansFrom (now (ps .entry)) (record { ids = now (ids .entry); classes = now (classes .entry) }) ⌝ }
 {
-    let mut count = ears::list_apart(ids, classes, apart);
+    let mut count = apart::list_apart(ids, classes, apart);
     let mut m = ids.len();
     let mut f = Found::Nothing;
     while 3 < m {
-        let i = ears::lowest_ear(ps, &ids[..m], classes, &apart[..count]);
+        let i = apart::lowest_ear(ps, &ids[..m], classes, &apart[..count]);
         if i == m {
             return f;
         }
@@ -248,7 +248,7 @@ fn find_means(ps: &[f64], ids: &mut [u16], classes: &mut [u8], apart: &mut [u16]
         if is_both(f) {
             return f;
         }
-        count = ears::cut_apart(ps, &mut ids[..m], classes, apart, count, i);
+        count = apart::cut_apart(ps, &mut ids[..m], classes, apart, count, i);
         m -= 1;
     }
     with_mean(f, mean_at(ps, &ids[..m], 1))

@@ -13,7 +13,7 @@ use Rattle.base.specs.Turns.{sineOf}
 use Rattle.judge.specs.Judge.{vectorFault, faultOf}
 use Rattle.cap.specs.Caps.{meet}
 use Rattle.ring.specs.Ring.{opened, edgeNormal, turnAt, turnSum, reversal, normalAt, classBy, classAt, allBoth}
-use Rattle.ears.specs.Inside.{fits, edgeSide, fitsEdges, isCorner, insideOrEdge}
+use Rattle.inside.specs.Inside.{fits, edgeSide, fitsEdges, isCorner, insideOrEdge}
 use Rattle.ears.specs.Ears.{blocks, ear, reclass, recut, cutAt}
 use Rattle.cutting.specs.Cutting.{cutting, outOf}
 use Rattle.header.specs.Loops.{shapeFault, threesOf, ringFault, classesFault, cutFault, checkFault, capFault, vectorsFault, loopFault}

@@ -80,7 +80,7 @@ fn insides_of(positions: &[f64], classes: &[u8]) -> Insides
     ensures { λ r. ⌜ r ≡ B.insidesFor (now (positions .entry)) (now (classes .entry)) ⌝ }
 {
     if classes.len() > 3 {
-        cutting::find_insides(positions, classes)
+        insides::find_insides(positions, classes)
     } else {
         Insides::Absent
     }

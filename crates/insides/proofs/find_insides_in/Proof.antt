@@ -1,9 +1,9 @@
 use native.Mathlib.Omega.{arith}
-use Rattle.cutting.proofs.Seekings.{of-whole}
+use Rattle.insides.proofs.Seekings.{of-whole}
 use Rattle.cutting.proofs.Wholes.{ready}
 use borrow.Author.Needs.{needs}
-use Rattle.cutting.proofs.find_insides_in.Statement.{statement}
-use Rattle.cutting.proofs.find_insides_in.Tie as tie
+use Rattle.insides.proofs.find_insides_in.Statement.{statement}
+use Rattle.insides.proofs.find_insides_in.Tie as tie
 
 pub find-insides-in-spec : {M : Type 1} → statement M
 find-insides-in-spec =

@@ -1,6 +1,6 @@
 use borrow.Author.Needs.{needs}
-use Rattle.cutting.proofs.with_position.Statement.{statement}
-use Rattle.cutting.proofs.with_position.Tie as tie
+use Rattle.insides.proofs.with_position.Statement.{statement}
+use Rattle.insides.proofs.with_position.Tie as tie
 
 pub with-position-spec : {M : Type 1} → statement M
 with-position-spec =

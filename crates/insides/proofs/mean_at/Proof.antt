@@ -1,6 +1,6 @@
 use borrow.Author.Needs.{needs}
-use Rattle.cutting.proofs.mean_at.Statement.{statement}
-use Rattle.cutting.proofs.mean_at.Tie as tie
+use Rattle.insides.proofs.mean_at.Statement.{statement}
+use Rattle.insides.proofs.mean_at.Tie as tie
 
 pub mean-at-spec : {M : Type 1} → statement M
 mean-at-spec =

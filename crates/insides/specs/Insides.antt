@@ -9,11 +9,11 @@ use Rattle.vec3.specs.Vec.{posAt}
 use Rattle.vec3.specs.Points.{triangleMean}
 use Rattle.ears.specs.declared.Triangle.{Triangle}
 use Rattle.ears.specs.Ears.{Remaining}
-use Rattle.cutting.specs.declared.Found.{Found}
-use Rattle.cutting.specs.declared.Found.the-variants as F
+use Rattle.insides.specs.declared.Found.{Found}
+use Rattle.insides.specs.declared.Found.the-variants as F
 use Rattle.cutting.specs.declared.Insides.{Insides}
 use Rattle.cutting.specs.declared.Insides.the-variants as I
 use Rattle.cutting.specs.Cutting.{wholeRing, cuttingFrom}
 
 -- the means found so far, with one more
 abbrev pub withMean : Found → Point → Found

@@ -2,10 +2,10 @@ use native.Mathlib.Omega.{arith}
 use borrow.Author.Needs.{needs}
 use mathlib.Core.Path.{refl, sym, _∙_}
 use Rattle.ears.proofs.Places.{placed}
-use Rattle.cutting.proofs.Seekings.{Seeking, begin, stuck, both, cut, finish}
+use Rattle.insides.proofs.Seekings.{Seeking, begin, stuck, both, cut, finish}
 use Rattle.cutting.proofs.Lefts.{found, found-convex}
-use Rattle.cutting.proofs.find_means.Statement.{statement}
-use Rattle.cutting.proofs.find_means.Tie as tie
+use Rattle.insides.proofs.find_means.Statement.{statement}
+use Rattle.insides.proofs.find_means.Tie as tie
 
 abbrev Inv-loop : tie.InvT-loop
 Inv-loop ps ids₀ classes₀ apart₀ k₀ m₀ f₀ ids classes apart k m f = Seeking ps ids₀ classes₀ apart₀ ids classes apart k m f

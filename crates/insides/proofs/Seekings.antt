@@ -13,14 +13,14 @@ use Rattle.vec3.specs.declared.Point.the-variants.{Absent, At}
 use Rattle.ears.specs.Ears.{Lent, triangleAt, Remaining, cutAt, cutIn}
 use Rattle.apart.specs.Lowest.{lowest}
 use Rattle.apart.specs.Apart.{apartOf}
-use Rattle.cutting.specs.declared.Found.{Found}
-use Rattle.cutting.specs.declared.Found.the-variants as F
+use Rattle.insides.specs.declared.Found.{Found}
+use Rattle.insides.specs.declared.Found.the-variants as F
 use Rattle.cutting.specs.declared.Insides.{Insides}
 use Rattle.cutting.specs.Cutting.{wholeRing, cutting}
-use Rattle.cutting.specs.Insides.{withMean, isBoth, meanOf, withMeans, meansFrom, insidesFrom, insidesOf}
+use Rattle.insides.specs.Insides.{withMean, isBoth, meanOf, withMeans, meansFrom, insidesFrom, insidesOf}
 use Rattle.cutting.proofs.Turns.{cutting-on, cutting-stuck, cutting-end, whole-three}
 use Rattle.cutting.proofs.Lefts.{left, Held, hold, found, ids-left, cut-left, cut-held}
 use Rattle.cutting.proofs.Lists.{Listing, list, list-on}
 
 means-none : (ps : List Float) (f : Found) → withMeans ps f [] ≡ f
 unfolding withMeans

@@ -1,6 +1,6 @@
 use borrow.Author.Needs.{needs}
-use Rattle.cutting.proofs.insides_from.Statement.{statement}
-use Rattle.cutting.proofs.insides_from.Tie as tie
+use Rattle.insides.proofs.insides_from.Statement.{statement}
+use Rattle.insides.proofs.insides_from.Tie as tie
 
 pub insides-from-spec : {M : Type 1} → statement M
 insides-from-spec =

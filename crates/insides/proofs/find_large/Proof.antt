@@ -1,8 +1,8 @@
 use mathlib.Core.Path.{sym}
 use Rattle.laws.proofs.Copies.{first-of}
 use borrow.Author.Needs.{needs}
-use Rattle.cutting.proofs.find_large.Statement.{statement}
-use Rattle.cutting.proofs.find_large.Tie as tie
+use Rattle.insides.proofs.find_large.Statement.{statement}
+use Rattle.insides.proofs.find_large.Tie as tie
 
 pub find-large-spec : {M : Type 1} → statement M
 find-large-spec =

@@ -1,6 +1,6 @@
 use borrow.Author.Needs.{needs}
-use Rattle.cutting.proofs.with_mean.Statement.{statement}
-use Rattle.cutting.proofs.with_mean.Tie as tie
+use Rattle.insides.proofs.with_mean.Statement.{statement}
+use Rattle.insides.proofs.with_mean.Tie as tie
 
 pub with-mean-spec : {M : Type 1} → statement M
 with-mean-spec =

@@ -1,9 +1,8 @@
 // Cutting a ring ear by ear into triangles of ring numbers, as sloop.rs has it. Work arrays of 512 entries, of 16 for a small ring, hold the ring numbers
 // and the classes of the ring left, and the numbers of the corners that are not convex. Total on every float.
 ghost use mathlib.Core.Path.{_≡_};
-ghost use mathlib.Core.List.{_++_};
 ghost use Prim.Native.Nat.{_+_, _-_, _*_, _≤_, _<_};
-ghost use lib.ListN.{length, drop};
+ghost use lib.ListN.{length};
 ghost use lib.Seq.{sets};
 ghost use Rattle.rings.specs.Ring.{numbers, earOf};
 ghost use Rattle.ears.specs.Ears.{Lent};
@@ -23,24 +22,6 @@ fn number(ids: &mut [u16])
 {
     for i in 0..ids.len() {
         ids[i] = i as u16;
-    }
-}
-
-fn copy_classes(src: &[u8], dst: &mut [u8])
-    requires { ⌜ (length (now src) ≤ length (now dst)) × (length (now src) ≤ 512) ⌝ }
-    ensures { λ _. ⌜ now (dst .exit) ≡ now (src .entry) ++ drop (length (now (src .entry))) (now (dst .entry)) ⌝ }
-{
-    for i in 0..src.len() {
-        dst[i] = src[i];
-    }
-}
-
-fn copy_numbers(src: &[u16], dst: &mut [u16])
-    requires { ⌜ (length (now src) ≤ length (now dst)) × (length (now src) ≤ 1530) ⌝ }
-    ensures { λ _. ⌜ now (dst .exit) ≡ now (src .entry) ++ drop (length (now (src .entry))) (now (dst .entry)) ⌝ }
-{
-    for i in 0..src.len() {
-        dst[i] = src[i];
     }
 }
 
@@ -91,7 +72,7 @@ pub fn start(classes: &[u8], ids: &mut [u16], work: &mut [u8])
     ensures { λ _. ⌜ record { ids = now (ids .exit); classes = now (work .exit) } ≡ wholeRing (now (classes .entry)) ⌝ }
 {
     number(ids);
-    copy_classes(classes, work);
+    copies::copy_classes(classes, work);
 }
 
 // `cut_ring` with its work places, and room for the triangles until all are cut.
@@ -109,7 +90,7 @@ fn cut_ring_in(
 {
     start(classes, ids, work);
     if cut_all(ps, ids, work, apart, triangles) {
-        copy_numbers(triangles, out);
+        copies::copy_numbers(triangles, out);
         return true;
     }
     false

@@ -5,14 +5,14 @@ use Rattle.laws.proofs.Copies.{one}
 use lib.ListN.{length}
 use mathlib.Core.Path.{refl}
 use Prim.Native.Nat.{_-_}
-use Rattle.cutting.proofs.copy_numbers.Statement.{statement}
-use Rattle.cutting.proofs.copy_numbers.Tie as tie
+use Rattle.copies.proofs.copy_numbers.Statement.{statement}
+use Rattle.copies.proofs.copy_numbers.Tie as tie
 
 abbrev Inv-loop : tie.InvT-loop
-Inv-loop src dst₀ i₀ i-end dst i = Fill 1 (one 0 src) (length src) i dst₀ dst
+Inv-loop numbers to₀ i₀ i-end to i = Fill 1 (one 0 numbers) (length numbers) i to₀ to
 
 abbrev μ-loop : tie.MeasureT-loop
-μ-loop src dst₀ i₀ i-end dst i = length src - i
+μ-loop numbers to₀ i₀ i-end to i = length numbers - i
 
 pub copy-numbers-spec : {M : Type 1} → statement M
 copy-numbers-spec =

@@ -1,18 +1,18 @@
 use native.Mathlib.Omega.{arith}
 use Rattle.laws.proofs.Kit.{kit}
-use Rattle.laws.proofs.Copies.{one}
 use Rattle.laws.proofs.Blocks.{Fill, fill, fill-on-one}
+use Rattle.laws.proofs.Copies.{one}
 use lib.ListN.{length}
 use mathlib.Core.Path.{refl}
 use Prim.Native.Nat.{_-_}
-use Rattle.build.proofs.copy_classes.Statement.{statement}
-use Rattle.build.proofs.copy_classes.Tie as tie
+use Rattle.copies.proofs.copy_classes.Statement.{statement}
+use Rattle.copies.proofs.copy_classes.Tie as tie
 
 abbrev Inv-loop : tie.InvT-loop
-Inv-loop from to₀ i₀ i-end to i = Fill 1 (one 0 from) (length from) i to₀ to
+Inv-loop classes to₀ i₀ i-end to i = Fill 1 (one 0 classes) (length classes) i to₀ to
 
 abbrev μ-loop : tie.MeasureT-loop
-μ-loop from to₀ i₀ i-end to i = length from - i
+μ-loop classes to₀ i₀ i-end to i = length classes - i
 
 pub copy-classes-spec : {M : Type 1} → statement M
 copy-classes-spec =

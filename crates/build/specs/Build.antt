@@ -15,7 +15,7 @@ use Rattle.turning.specs.Turning.{edgeNormals, turnSum}
 use Rattle.ring.specs.Ring.{opened, reversal, ringOf, normalsOf, classesOf, allBoth}
 use Rattle.cutting.specs.declared.Insides.{Insides}
 use Rattle.cutting.specs.declared.Insides.the-variants.{Absent, Two}
-use Rattle.cutting.specs.Insides.{insidesOf}
+use Rattle.insides.specs.Insides.{insidesOf}
 use Rattle.header.specs.declared.Header.{Header}
 use Rattle.header.specs.declared.State.the-variants.{Ring}
 use Rattle.header.specs.Loops.{emptyHeader, fullHeader}

@@ -1,8 +1,7 @@
 // Building a loop: from a lent list of positions to a header by value and a ring in lent slices, or a refusal that changes nothing.
 ghost use mathlib.Core.Path.{_≡_};
-ghost use mathlib.Core.List.{_++_};
 ghost use Prim.Native.Nat.{_*_, _≤_};
-ghost use lib.ListN.{length, drop};
+ghost use lib.ListN.{length};
 ghost use Rattle.cutting.specs.Cutting as C;
 ghost use Rattle.build.specs.Build as B;
 use angle::Angle;
@@ -65,22 +64,13 @@ fn prepare(list: &[f64], n: usize, edges: &mut [f64], codes: &mut [u8]) -> Angle
     sum
 }
 
-fn copy_classes(from: &[u8], to: &mut [u8])
-    requires { ⌜ length (now from) ≤ length (now to) ⌝ }
-    ensures { λ _. ⌜ now (to .exit) ≡ now (from .entry) ++ drop (length (now (from .entry))) (now (to .entry)) ⌝ }
-{
-    for i in 0..from.len() {
-        to[i] = from[i];
-    }
-}
-
 // The insides of a ring: a triangle has none.
 fn insides_of(positions: &[f64], classes: &[u8]) -> Insides
     requires { ⌜ C.Ring (now positions) (now classes) ⌝ }
     ensures { λ r. ⌜ r ≡ B.insidesFor (now (positions .entry)) (now (classes .entry)) ⌝ }
 {
     if classes.len() > 3 {
-        cutting::find_insides(positions, classes)
+        insides::find_insides(positions, classes)
     } else {
         Insides::Absent
     }
@@ -102,7 +92,7 @@ fn write_ring(
 {
     ring::write_corners(list, n, reversed, positions);
     ring::write_normals(list, edges, n, reversed, normals);
-    copy_classes(codes, classes);
+    copies::copy_classes(codes, classes);
     insides_of(&positions[..3 * n], codes)
 }
 

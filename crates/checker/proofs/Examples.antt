@@ -10,7 +10,7 @@ use Rattle.root.specs.Root.{rootOf}
 use Rattle.numbers.specs.Near.{abs}
 use Rattle.vec3.specs.Vec.{unitVec, axisFor, orthogonalTo}
 use Rattle.base.specs.Sides.{signOf, retestOf, sideOf}
-use Rattle.ears.specs.Inside.{fits, edgeSide, fitsEdges, isCorner, insideOrEdge}
+use Rattle.inside.specs.Inside.{fits, edgeSide, fitsEdges, isCorner, insideOrEdge}
 use Rattle.ears.specs.Ears.{blocks, ear, reclass, recut, cutAt}
 use Rattle.cutting.specs.Cutting.{cutting, cuttingOf}
 use Rattle.checker.specs.Accepted.{fitsAt, sameNumbers, accepts, accepted}

@@ -24,8 +24,8 @@ fn is_between(ids: &[u16], i: usize, a: u16, c: u16) -> bool
     requires { ⌜ (i < length (now ids)) × (length (now ids) ≤ 512) ⌝ }
     ensures { λ r. ⌜ r ≡ between (now (ids .entry)) i a c ⌝ }
 {
-    let p = ears::prior(ids.len(), i);
-    let n = ears::later(ids.len(), i);
+    let p = rounds::previous(i, ids.len());
+    let n = rounds::next(i, ids.len());
     (ids[p] == a) & (ids[n] == c)
 }
 

@@ -70,7 +70,7 @@ fn print_ring(positions: &[f64], classes: &[u8], triangles: &mut [u16])
     } else {
         print(b", no ear");
     }
-    print_insides(cutting::find_insides(positions, classes));
+    print_insides(insides::find_insides(positions, classes));
 }
 
 fn cut(positions: &[f64], classes: &[u8])

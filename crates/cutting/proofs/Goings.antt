@@ -8,8 +8,9 @@ use lib.Ieee.{Float}
 use lib.ListN.{length, take, drop, length-append, length-drop}
 use lib.Seq.{sets, sets-eq, length-sets, take-at, take-length, drop-at, drop-drop}
 use Rattle.rings.specs.Ring.{without, earOf}
-use Rattle.ears.specs.Ears.{Lent, lowest, cutAt, cutIn}
-use Rattle.ears.specs.Apart.{apartOf}
+use Rattle.ears.specs.Ears.{Lent, cutAt, cutIn}
+use Rattle.apart.specs.Lowest.{lowest}
+use Rattle.apart.specs.Apart.{apartOf}
 use Rattle.cutting.specs.Cutting.{Cutting, ahead, cutting, cuttingFrom, laid}
 use Rattle.cutting.proofs.Turns.{cutting-on, cutting-stuck, cutting-end, whole-three}
 use Rattle.cutting.proofs.Lefts.{left, Held, hold, found, ids-left, cut-left, cut-held}

@@ -10,7 +10,8 @@ use lib.Seq.{take-at, take-length, length-take-le}
 use Rattle.laws.proofs.Loops.{firstAt-le}
 use Rattle.rings.specs.Ring.{without}
 use Rattle.rings.proofs.Withouts.{length-without}
-use Rattle.ears.specs.Ears.{Lent, convex, ear, lowest, Remaining, cutAt, cutIn}
+use Rattle.ears.specs.Ears.{Lent, convex, ear, Remaining, cutAt, cutIn}
+use Rattle.apart.specs.Lowest.{lowest}
 use Rattle.ears.proofs.Places.{relent, lent-without}
 use Rattle.cutting.proofs.Firsts.{first-has}
 

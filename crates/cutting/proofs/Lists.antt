@@ -5,7 +5,7 @@ use mathlib.Core.List.{List}
 use native.Mathlib.Omega.{arith}
 use lib.ListN.{length, take}
 use lib.Seq.{take-length, length-take-le}
-use Rattle.ears.specs.Apart.{apartOf}
+use Rattle.apart.specs.Apart.{apartOf}
 
 pub record Listing (apart₀ ids classes apart : List ℕ) (m k : ℕ) : Type 0 where
   pub size : length apart ≡ length apart₀

@@ -8,7 +8,8 @@ use lib.ListN.{length, drop}
 use lib.Dec.{ltb}
 use lib.Ieee.{Float}
 use Rattle.rings.specs.Ring.{numbers, earOf}
-use Rattle.ears.specs.Ears.{lowest, Remaining, cutAt}
+use Rattle.ears.specs.Ears.{Remaining, cutAt}
+use Rattle.apart.specs.Lowest.{lowest}
 
 -- what the functions are lent: positions and classes of one ring of three to 512
 pub record Ring (ps : List Float) (classes : List ℕ) : Type 0 where

@@ -1,30 +1,18 @@
-// Cutting a ring ear by ear, as sloop.rs has it: into triangles of ring numbers, for two positions inside it, and along a list that is to be checked.
-// Work arrays of 512 entries, of 16 for a small ring, hold the ring numbers and the classes of the ring left, and the numbers of the corners that are not
-// convex. Total on every float.
+// Cutting a ring ear by ear into triangles of ring numbers, as sloop.rs has it. Work arrays of 512 entries, of 16 for a small ring, hold the ring numbers
+// and the classes of the ring left, and the numbers of the corners that are not convex. Total on every float.
 ghost use mathlib.Core.Path.{_≡_};
-ghost use mathlib.Core.List.{_++_};
 ghost use Prim.Native.Nat.{_+_, _-_, _*_, _≤_, _<_};
-ghost use lib.ListN.{length, drop};
+ghost use lib.ListN.{length};
 ghost use lib.Seq.{sets};
 ghost use Rattle.rings.specs.Ring.{numbers, earOf};
-ghost use Rattle.ears.specs.Ears.{Lent, Placed, triangleAt};
-ghost use Rattle.vec3.specs.declared.Point as Point;
+ghost use Rattle.ears.specs.Ears.{Lent};
 ghost use Rattle.cutting.specs.Cutting.{Ring, Work, wholeRing, cuttingFrom, laid, outOf};
-ghost use Rattle.cutting.specs.Insides.{withMean, isBoth, meanOf, meansFrom, insidesFrom, insidesOf};
-use vec3::Point;
 use vec3::Vec3;
 
 // Two positions inside a ring, or none.
 pub enum Insides {
     Absent,
     Two(Vec3, Vec3),
-}
-
-// The means found so far.
-enum Found {
-    Nothing,
-    One(Vec3),
-    Both(Vec3, Vec3),
 }
 
 // 0, 1, 2 and so on.
@@ -37,32 +25,14 @@ fn number(ids: &mut [u16])
     }
 }
 
-fn copy_classes(src: &[u8], dst: &mut [u8])
-    requires { ⌜ (length (now src) ≤ length (now dst)) × (length (now src) ≤ 512) ⌝ }
-    ensures { λ _. ⌜ now (dst .exit) ≡ now (src .entry) ++ drop (length (now (src .entry))) (now (dst .entry)) ⌝ }
-{
-    for i in 0..src.len() {
-        dst[i] = src[i];
-    }
-}
-
-fn copy_numbers(src: &[u16], dst: &mut [u16])
-    requires { ⌜ (length (now src) ≤ length (now dst)) × (length (now src) ≤ 1530) ⌝ }
-    ensures { λ _. ⌜ now (dst .exit) ≡ now (src .entry) ++ drop (length (now (src .entry))) (now (dst .entry)) ⌝ }
-{
-    for i in 0..src.len() {
-        dst[i] = src[i];
-    }
-}
-
 // Writes the triangle at place i as the one numbered t: previous, this, next.
 fn put_ear(ids: &[u16], i: usize, triangles: &mut [u16], t: usize)
     requires { ⌜ (i < length (now ids)) × (length (now ids) ≤ 512) × (3 * t + 2 < length (now triangles)) ⌝ }
     ensures { λ _. ⌜ now (triangles .exit) ≡ sets (now (triangles .entry)) (3 * t) (earOf (now (ids .entry)) i) ⌝ }
 {
     let m = ids.len();
-    let a = ears::prior(m, i);
-    let b = ears::later(m, i);
+    let a = rounds::previous(i, m);
+    let b = rounds::next(i, m);
     triangles[3 * t] = ids[a];
     triangles[3 * t + 1] = ids[i];
     triangles[3 * t + 2] = ids[b];
@@ -79,16 +49,16 @@ fn cut_all(
     requires { ⌜ Lent (now ps) (now ids) (now classes) × (3 ≤ length (now ids)) × (length (now ids) ≤ length (now apart)) × (3 * (length (now ids) - 2) ≤ length (now triangles)) ⌝ }
     ensures { λ r. ⌜ record { answer = r; out = now (triangles .exit) } ≡ laid (cuttingFrom (now (ps .entry)) (record { ids = now (ids .entry); classes = now (classes .entry) })) (now (triangles .entry)) ⌝ }
 {
-    let mut k = ears::list_apart(ids, classes, apart);
+    let mut k = apart::list_apart(ids, classes, apart);
     let mut m = ids.len();
     let mut t = 0;
     while 3 < m {
-        let i = ears::lowest_ear(ps, &ids[..m], classes, &apart[..k]);
+        let i = apart::lowest_ear(ps, &ids[..m], classes, &apart[..k]);
         if i == m {
             return false;
         }
         put_ear(&ids[..m], i, triangles, t);
-        k = ears::cut_apart(ps, &mut ids[..m], classes, apart, k, i);
+        k = apart::cut_apart(ps, &mut ids[..m], classes, apart, k, i);
         m -= 1;
         t += 1;
     }
@@ -102,7 +72,7 @@ pub fn start(classes: &[u8], ids: &mut [u16], work: &mut [u8])
     ensures { λ _. ⌜ record { ids = now (ids .exit); classes = now (work .exit) } ≡ wholeRing (now (classes .entry)) ⌝ }
 {
     number(ids);
-    copy_classes(classes, work);
+    copies::copy_classes(classes, work);
 }
 
 // `cut_ring` with its work places, and room for the triangles until all are cut.
@@ -120,7 +90,7 @@ fn cut_ring_in(
 {
     start(classes, ids, work);
     if cut_all(ps, ids, work, apart, triangles) {
-        copy_numbers(triangles, out);
+        copies::copy_numbers(triangles, out);
         return true;
     }
     false
@@ -180,138 +150,4 @@ pub fn cut_ring(positions: &[f64], classes: &[u8], out: &mut [u16]) -> bool
         return cut_small(positions, classes, out);
     }
     cut_large(positions, classes, out)
-}
-
-fn with_position(f: Found, p: Vec3) -> Found
-    ensures { λ r. ⌜ r ≡ withMean f (Point.At p) ⌝ }
-{
-    match f {
-        Found::Nothing => Found::One(p),
-        Found::One(a) => Found::Both(a, p),
-        Found::Both(a, b) => Found::Both(a, b),
-    }
-}
-
-// The means found so far, with one more where there is one.
-fn with_mean(f: Found, p: Point) -> Found
-    ensures { λ r. ⌜ r ≡ withMean f p ⌝ }
-{
-    match p {
-        Point::Absent => f,
-        Point::At(v) => with_position(f, v),
-    }
-}
-
-fn is_both(f: Found) -> bool
-    ensures { λ r. ⌜ r ≡ isBoth f ⌝ }
-{
-    match f {
-        Found::Nothing => false,
-        Found::One(a) => false,
-        Found::Both(a, b) => true,
-    }
-}
-
-fn insides_from(f: Found) -> Insides
-    ensures { λ r. ⌜ r ≡ insidesFrom f ⌝ }
-{
-    match f {
-        Found::Nothing => Insides::Absent,
-        Found::One(a) => Insides::Absent,
-        Found::Both(a, b) => Insides::Two(a, b),
-    }
-}
-
-// The mean of the triangle at place i.
-fn mean_at(ps: &[f64], ids: &[u16], i: usize) -> Point
-    requires { ⌜ Placed (now ps) (now ids) × (i < length (now ids)) × (length (now ids) ≤ 512) ⌝ }
-    ensures { λ r. ⌜ r ≡ meanOf (triangleAt (now (ps .entry)) (now (ids .entry)) i) ⌝ }
-{
-    let t = ears::triangle_at(ps, ids, i);
-    t.previous.triangle_mean(t.this, t.next)
-}
-
-// Cuts the lowest ear each time until two means are found, three are left, or there is no ear.
-fn find_means(ps: &[f64], ids: &mut [u16], classes: &mut [u8], apart: &mut [u16]) -> Found
-    requires { ⌜ Lent (now ps) (now ids) (now classes) × (3 ≤ length (now ids)) × (length (now ids) ≤ length (now apart)) ⌝ }
-    ensures { λ r. ⌜ r ≡ meansFrom (now (ps .entry)) (record { ids = now (ids .entry); classes = now (classes .entry) }) ⌝ }
-{
-    let mut count = ears::list_apart(ids, classes, apart);
-    let mut m = ids.len();
-    let mut f = Found::Nothing;
-    while 3 < m {
-        let i = ears::lowest_ear(ps, &ids[..m], classes, &apart[..count]);
-        if i == m {
-            return f;
-        }
-        f = with_mean(f, mean_at(ps, &ids[..m], i));
-        if is_both(f) {
-            return f;
-        }
-        count = ears::cut_apart(ps, &mut ids[..m], classes, apart, count, i);
-        m -= 1;
-    }
-    with_mean(f, mean_at(ps, &ids[..m], 1))
-}
-
-// `find_insides` with its work places.
-fn find_insides_in(
-    ps: &[f64],
-    classes: &[u8],
-    ids: &mut [u16],
-    work: &mut [u8],
-    apart: &mut [u16],
-) -> Insides
-    requires { ⌜ Work (now ps) (now classes) (now ids) (now work) × (length (now apart) ≡ length (now classes)) ⌝ }
-    ensures { λ r. ⌜ r ≡ insidesOf (now (ps .entry)) (now (classes .entry)) ⌝ }
-{
-    start(classes, ids, work);
-    insides_from(find_means(ps, ids, work, apart))
-}
-
-// `find_insides` with work arrays for every ring.
-fn find_large(positions: &[f64], classes: &[u8]) -> Insides
-    requires { ⌜ Ring (now positions) (now classes) ⌝ }
-    ensures { λ r. ⌜ r ≡ insidesOf (now (positions .entry)) (now (classes .entry)) ⌝ }
-{
-    let n = classes.len();
-    let mut ids = [0u16; 512];
-    let mut work = [0u8; 512];
-    let mut apart = [0u16; 512];
-    find_insides_in(
-        positions,
-        classes,
-        &mut ids[..n],
-        &mut work[..n],
-        &mut apart[..n],
-    )
-}
-
-// `find_insides` with small work arrays.
-fn find_small(positions: &[f64], classes: &[u8]) -> Insides
-    requires { ⌜ Ring (now positions) (now classes) × (length (now classes) ≤ 16) ⌝ }
-    ensures { λ r. ⌜ r ≡ insidesOf (now (positions .entry)) (now (classes .entry)) ⌝ }
-{
-    let n = classes.len();
-    let mut ids = [0u16; 16];
-    let mut work = [0u8; 16];
-    let mut apart = [0u16; 16];
-    find_insides_in(
-        positions,
-        classes,
-        &mut ids[..n],
-        &mut work[..n],
-        &mut apart[..n],
-    )
-}
-
-// The means of the first two cuts of a ring that have one, the last triangle included; without two, none.
-pub fn find_insides(positions: &[f64], classes: &[u8]) -> Insides
-    requires { ⌜ Ring (now positions) (now classes) ⌝ }
-    ensures { λ r. ⌜ r ≡ insidesOf (now (positions .entry)) (now (classes .entry)) ⌝ }
-{
-    if classes.len() <= 16 {
-        return find_small(positions, classes);
-    }
-    find_large(positions, classes)
 }

@@ -8,7 +8,7 @@ use mathlib.Core.List.{List, _++_}
 use lib.ListN.{length, getD, set, drop}
 use lib.Dec.{eqb, ltb}
 use lib.Ieee.{Float}
-use Rattle.laws.specs.Loop.{anyOf, firstAt}
+use Rattle.laws.specs.Loop.{anyOf}
 use Rattle.rings.specs.Ring.{Below, prev, next, without}
 use Rattle.vec3.specs.declared.Vec3.{Vec3}
 use Rattle.vec3.specs.Vec.{posAt}
@@ -16,7 +16,7 @@ use Rattle.base.specs.declared.Side.{Side}
 use Rattle.base.specs.declared.Side.the-variants.{Left, Right, Collinear}
 use Rattle.base.specs.Sides.{sideOf}
 use Rattle.ears.specs.declared.Triangle.{Triangle}
-use Rattle.ears.specs.Inside.{insideOrEdge}
+use Rattle.inside.specs.Inside.{insideOrEdge}
 
 -- what the inner functions are lent: positions and classes of one ring, at most 512, and ring numbers of it
 pub record Lent (ps : List Float) (ids classes : List ℕ) : Type 0 where
@@ -56,10 +56,6 @@ blocked ps ids classes t = anyOf (blocks ps ids classes t) (length ids) 0
 -- place i is an eligible ear
 unfoldable pub ear : List Float → List ℕ → List ℕ → ℕ → Bool
 ear ps ids classes i = convex ids classes i && not (blocked ps ids classes (triangleAt ps ids i))
-
--- the lowest, or the number of places if there is none
-abbrev pub lowest : List Float → List ℕ → List ℕ → ℕ
-lowest ps ids classes = firstAt (ear ps ids classes) (length ids) 0
 
 -- the class of a corner, by the side of the previous one against the edge from it to the next
 abbrev pub classOf : Side → ℕ

@@ -1,3 +1,2 @@
-pub mod Inside
 pub mod Ears
-pub mod Apart
+pub mod Changes

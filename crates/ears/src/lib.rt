@@ -2,13 +2,11 @@
 // what is left of it is a list of ring numbers, and the classes by ring number. Total on every float.
 ghost use mathlib.Core.Path.{_≡_};
 ghost use mathlib.Core.List.{_++_};
-ghost use Prim.Native.Nat.{_+_, _-_, _*_, _%_, _≤_, _<_};
-ghost use mathlib.Core.Bool.{true};
-ghost use lib.ListN.{length, getD, take, drop};
-ghost use Rattle.rings.specs.Ring.{Below, without};
-ghost use Rattle.ears.specs.Inside.{isRight, collinears, fits, edgeSide, fitsEdges, isCorner, insideOrEdge};
-ghost use Rattle.ears.specs.Ears.{Lent, corner, convex, triangleAt, Placed, blocks, blocked, ear, lowest, classOf, turnOf, reclass, recut, cutIn};
-ghost use Rattle.ears.specs.Apart.{pastIf, apartOf, holds, held, farNormal, unlike, turned, returned};
+ghost use Prim.Native.Nat.{_+_, _-_, _*_, _≤_, _<_};
+ghost use lib.ListN.{length, getD, drop};
+ghost use Rattle.rings.specs.Ring.{without};
+ghost use Rattle.ears.specs.Ears.{Lent, corner, convex, triangleAt, Placed, blocks, blocked, ear, classOf, turnOf, reclass, recut, cutIn};
+ghost use Rattle.ears.specs.Changes.{unlike, turned, returned};
 use base::Side;
 use vec3::Vec3;
 
@@ -19,106 +17,15 @@ pub struct Triangle {
     pub next: Vec3,
 }
 
-fn is_right(s: Side) -> bool
-    ensures { λ r. ⌜ r ≡ isRight s ⌝ }
-{
-    match s {
-        Side::Left => false,
-        Side::Right => true,
-        Side::Collinear => false,
-    }
-}
-
-// 1 for collinear, else 0.
-fn collinear(s: Side) -> u8
-    ensures { λ r. ⌜ (r ≡ collinears s) × (r ≤ 1) ⌝ }
-{
-    match s {
-        Side::Left => 0,
-        Side::Right => 0,
-        Side::Collinear => 1,
-    }
-}
-
-// Whether none of the three is right and at most one is collinear.
-fn sides_fit(a: Side, b: Side, c: Side) -> bool
-    ensures { λ r. ⌜ r ≡ fits a b c ⌝ }
-{
-    if is_right(a) | is_right(b) | is_right(c) {
-        return false;
-    }
-    collinear(a) + collinear(b) + collinear(c) < 2
-}
-
-// The side of p against the edge from u to v, whose ends are exchanged where the triangle is clockwise.
-fn clockwise_side(clockwise: bool, p: Vec3, u: Vec3, v: Vec3) -> Side
-    ensures { λ r. ⌜ r ≡ edgeSide clockwise p u v ⌝ }
-{
-    if clockwise {
-        base::side_of(p, v, u)
-    } else {
-        base::side_of(p, u, v)
-    }
-}
-
-fn edges_fit(clockwise: bool, p: Vec3, a: Vec3, b: Vec3, c: Vec3) -> bool
-    ensures { λ r. ⌜ r ≡ fitsEdges clockwise p a b c ⌝ }
-{
-    let side1 = clockwise_side(clockwise, p, a, b);
-    let side2 = clockwise_side(clockwise, p, b, c);
-    let side3 = clockwise_side(clockwise, p, c, a);
-    sides_fit(side1, side2, side3)
-}
-
-fn is_corner(p: Vec3, a: Vec3, b: Vec3, c: Vec3) -> bool
-    ensures { λ r. ⌜ r ≡ isCorner p a b c ⌝ }
-{
-    p.equals(a) | p.equals(b) | p.equals(c)
-}
-
-// Whether p is inside the triangle (a, b, c) or on an edge of it; a corner is not.
-pub fn inside_or_edge(p: Vec3, a: Vec3, b: Vec3, c: Vec3) -> bool
-    ensures { λ r. ⌜ r ≡ insideOrEdge p a b c ⌝ }
-{
-    if is_corner(p, a, b, c) {
-        return false;
-    }
-    let clockwise = is_right(base::side_of(a, b, c));
-    edges_fit(clockwise, p, a, b, c)
-}
-
-// Place m of m is the first. By comparison, as a division costs more than the rest of a cut.
-fn wrapped(m: usize, i: usize) -> usize
-    requires { ⌜ (0 < m) × (i ≤ m) ⌝ }
-    ensures { λ r. ⌜ (r ≡ i % m) × (r < m) ⌝ }
-{
-    if i == m { 0 } else { i }
-}
-
-// The places before and after place i of m, counted round.
-pub fn prior(m: usize, i: usize) -> usize
-    requires { ⌜ (i < m) × (m ≤ 512) ⌝ }
-    ensures { λ r. ⌜ (r ≡ (i + m - 1) % m) × (r < m) ⌝ }
-{
-    if i == 0 { m - 1 } else { i - 1 }
-}
-
-pub fn later(m: usize, i: usize) -> usize
-    requires { ⌜ (i < m) × (m ≤ 512) ⌝ }
-    ensures { λ r. ⌜ (r ≡ (i + 1) % m) × (r < m) ⌝ }
-{
-    wrapped(m, i + 1)
-}
-
 // The position of the corner at place i.
-fn corner_at(ps: &[f64], ids: &[u16], i: usize) -> Vec3
+pub fn corner_at(ps: &[f64], ids: &[u16], i: usize) -> Vec3
     requires { ⌜ (i < length (now ids)) × (3 * getD (now ids) i 0 + 2 < length (now ps)) ⌝ }
     ensures { λ r. ⌜ r ≡ corner (now (ps .entry)) (now (ids .entry)) i ⌝ }
 {
     vec3::at(ps, ids[i] as usize)
 }
 
-fn is_convex(ids: &[u16], classes: &[u8], i: usize) -> bool
+pub fn is_convex(ids: &[u16], classes: &[u8], i: usize) -> bool
     requires { ⌜ (i < length (now ids)) × (getD (now ids) i 0 < length (now classes)) ⌝ }
     ensures { λ r. ⌜ r ≡ convex (now (ids .entry)) (now (classes .entry)) i ⌝ }
 {
@@ -129,9 +36,9 @@ pub fn triangle_at(ps: &[f64], ids: &[u16], i: usize) -> Triangle
     requires { ⌜ Placed (now ps) (now ids) × (i < length (now ids)) × (length (now ids) ≤ 512) ⌝ }
     ensures { λ r. ⌜ r ≡ triangleAt (now (ps .entry)) (now (ids .entry)) i ⌝ }
 {
-    let previous = corner_at(ps, ids, prior(ids.len(), i));
+    let previous = corner_at(ps, ids, rounds::previous(i, ids.len()));
     let this = corner_at(ps, ids, i);
-    let next = corner_at(ps, ids, later(ids.len(), i));
+    let next = corner_at(ps, ids, rounds::next(i, ids.len()));
     Triangle {
         previous: previous,
         this: this,
@@ -147,7 +54,7 @@ fn is_block(ps: &[f64], ids: &[u16], classes: &[u8], t: Triangle, j: usize) -> b
     if is_convex(ids, classes, j) {
         return false;
     }
-    inside_or_edge(corner_at(ps, ids, j), t.previous, t.this, t.next)
+    inside::inside_or_edge(corner_at(ps, ids, j), t.previous, t.this, t.next)
 }
 
 // Whether one corner of the ring left is.
@@ -172,91 +79,6 @@ pub fn is_ear(ps: &[f64], ids: &[u16], classes: &[u8], i: usize) -> bool
         return !is_blocked(ps, ids, classes, triangle_at(ps, ids, i));
     }
     false
-}
-
-// The normal of the triangle's edge from its last corner to its first, turned as the triangle's sides are read.
-fn far_normal(t: Triangle) -> Vec3
-    ensures { λ r. ⌜ r ≡ farNormal t ⌝ }
-{
-    if is_right(base::side_of(t.previous, t.this, t.next)) {
-        t.previous.cross_prod(t.next)
-    } else {
-        t.next.cross_prod(t.previous)
-    }
-}
-
-// Whether the corner at place j is inside the triangle or on an edge of it. Most are beyond its far edge, which one product tells.
-fn is_held(ps: &[f64], apart: &[u16], t: Triangle, normal: Vec3, j: usize) -> bool
-    requires { ⌜ (normal ≡ farNormal t) × (j < length (now apart)) × (3 * getD (now apart) j 0 + 2 < length (now ps)) ⌝ }
-    ensures { λ r. ⌜ r ≡ holds (now (ps .entry)) (now (apart .entry)) t j ⌝ }
-{
-    let p = corner_at(ps, apart, j);
-    if base::is_surely_right(p, normal) {
-        return false;
-    }
-    inside_or_edge(p, t.previous, t.this, t.next)
-}
-
-// Whether one of those listed is.
-fn is_one_held(ps: &[f64], apart: &[u16], t: Triangle) -> bool
-    requires { ⌜ Placed (now ps) (now apart) × (length (now apart) ≤ 512) ⌝ }
-    ensures { λ r. ⌜ r ≡ held (now (ps .entry)) (now (apart .entry)) t ⌝ }
-{
-    let normal = far_normal(t);
-    for j in 0..apart.len() {
-        if is_held(ps, apart, t, normal, j) {
-            return true;
-        }
-    }
-    false
-}
-
-// Whether place i is an eligible ear, where `apart` lists the corners that are not convex.
-fn is_free(ps: &[f64], ids: &[u16], classes: &[u8], apart: &[u16], i: usize) -> bool
-    requires { ⌜ Lent (now ps) (now ids) (now classes) × (now apart ≡ apartOf (now ids) (now classes)) × (i < length (now ids)) ⌝ }
-    ensures { λ r. ⌜ r ≡ ear (now (ps .entry)) (now (ids .entry)) (now (classes .entry)) i ⌝ }
-{
-    if is_convex(ids, classes, i) {
-        if apart.len() == 0 {
-            return true;
-        }
-        return !is_one_held(ps, apart, triangle_at(ps, ids, i));
-    }
-    false
-}
-
-// The lowest eligible ear, where `apart` lists the corners that are not convex; the number of places if there is none.
-pub fn lowest_ear(ps: &[f64], ids: &[u16], classes: &[u8], apart: &[u16]) -> usize
-    requires { ⌜ Lent (now ps) (now ids) (now classes) × (now apart ≡ apartOf (now ids) (now classes)) ⌝ }
-    ensures { λ r. ⌜ r ≡ lowest (now (ps .entry)) (now (ids .entry)) (now (classes .entry)) ⌝ }
-{
-    for i in 0..ids.len() {
-        if is_free(ps, ids, classes, apart, i) {
-            return i;
-        }
-    }
-    ids.len()
-}
-
-// How many are listed with one more, unless that is convex.
-fn past(k: usize, passed: bool) -> usize
-    requires { ⌜ k ≤ 512 ⌝ }
-    ensures { λ r. ⌜ r ≡ pastIf passed k ⌝ }
-{
-    if passed { k } else { k + 1 }
-}
-
-// Lists the corners that are not convex, by number, from the front of `apart` on; how many they are.
-pub fn list_apart(ids: &[u16], classes: &[u8], apart: &mut [u16]) -> usize
-    requires { ⌜ Below (length (now classes)) (now ids) × (length (now ids) ≤ length (now apart)) × (length (now ids) ≤ 512) ⌝ }
-    ensures { λ r. ⌜ (take r (now (apart .exit)) ≡ apartOf (now (ids .entry)) (now (classes .entry))) × (r ≤ length (now (ids .entry))) ⌝ }
-{
-    let mut k = 0;
-    for j in 0..ids.len() {
-        apart[k] = ids[j];
-        k = past(k, is_convex(ids, classes, j));
-    }
-    k
 }
 
 // Takes the number at place i out; the last place keeps its own.
@@ -318,8 +140,8 @@ fn reclassify_both(ps: &[f64], ids: &[u16], classes: &mut [u8], i: usize) -> boo
 {
     let m = ids.len();
     if 3 < m {
-        let next = wrapped(m, i);
-        let before = prior(m, next);
+        let next = rounds::wrapped(i, m);
+        let before = rounds::previous(next, m);
         let a = reclassify(ps, ids, classes, next);
         let b = reclassify(ps, ids, classes, before);
         return a | b;
@@ -328,7 +150,7 @@ fn reclassify_both(ps: &[f64], ids: &[u16], classes: &mut [u8], i: usize) -> boo
 }
 
 // Cuts the corner at place i off: its number goes, and the last place keeps its own. Whether a neighbour was convex and is not, or the other way round.
-fn cut_told(ps: &[f64], ids: &mut [u16], classes: &mut [u8], i: usize) -> bool
+pub fn cut_told(ps: &[f64], ids: &mut [u16], classes: &mut [u8], i: usize) -> bool
     requires { ⌜ Lent (now ps) (now ids) (now classes) × (i < length (now ids)) ⌝ }
     ensures { λ r. ⌜ (record { ids = now (ids .exit); classes = now (classes .exit) } ≡ cutIn (now (ps .entry)) (record { ids = now (ids .entry); classes = now (classes .entry) }) i) × (r ≡ returned (now (ps .entry)) (without i (now (ids .entry))) i (now (classes .entry))) ⌝ }
 {
@@ -343,23 +165,4 @@ pub fn cut_one(ps: &[f64], ids: &mut [u16], classes: &mut [u8], i: usize)
     ensures { λ _. ⌜ record { ids = now (ids .exit); classes = now (classes .exit) } ≡ cutIn (now (ps .entry)) (record { ids = now (ids .entry); classes = now (classes .entry) }) i ⌝ }
 {
     let told = cut_told(ps, ids, classes, i);
-}
-
-// Cuts a convex corner off and keeps the list of those that are not convex, the first k of `apart`; how many these then are.
-pub fn cut_apart(
-    ps: &[f64],
-    ids: &mut [u16],
-    classes: &mut [u8],
-    apart: &mut [u16],
-    k: usize,
-    i: usize,
-) -> usize
-    requires { ⌜ Lent (now ps) (now ids) (now classes) × (i < length (now ids)) × (convex (now ids) (now classes) i ≡ true) × (take k (now apart) ≡ apartOf (now ids) (now classes)) × (k ≤ length (now apart)) × (length (now ids) ≤ length (now apart)) ⌝ }
-    ensures { λ r. ⌜ (record { ids = now (ids .exit); classes = now (classes .exit) } ≡ cutIn (now (ps .entry)) (record { ids = now (ids .entry); classes = now (classes .entry) }) i) × (take r (now (apart .exit)) ≡ apartOf (without i (now (ids .entry))) (now (classes .exit))) × (r ≤ length (now (apart .entry))) ⌝ }
-{
-    let m = ids.len() - 1;
-    if cut_told(ps, ids, classes, i) {
-        return list_apart(&ids[..m], classes, apart);
-    }
-    k
 }

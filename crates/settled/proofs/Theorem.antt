@@ -14,7 +14,7 @@ use Rattle.judge.specs.Judge.{vectorFault, faultOf}
 use Rattle.cap.specs.Caps.{meet}
 use Rattle.turning.specs.Turning.{edgeNormal, turnAt, turnSum}
 use Rattle.ring.specs.Ring.{opened, reversal, normalAt, classBy, classAt, allBoth}
-use Rattle.ears.specs.Inside.{fits, edgeSide, fitsEdges, isCorner, insideOrEdge}
+use Rattle.inside.specs.Inside.{fits, edgeSide, fitsEdges, isCorner, insideOrEdge}
 use Rattle.ears.specs.Ears.{blocks, ear, reclass, recut, cutAt}
 use Rattle.cutting.specs.Cutting.{cutting, outOf}
 use Rattle.header.specs.Loops.{shapeFault, threesOf, ringFault, classesFault, cutFault, checkFault, capFault, vectorsFault, loopFault}

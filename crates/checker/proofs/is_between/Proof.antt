@@ -8,4 +8,4 @@ is-between-spec =
     (tie.spec
     (λ c κs. search needs) (λ c κs. search needs) (λ c. search needs) (λ c. search needs) (λ c. search needs)
     (λ c. search needs)
-    (λ c. simp (c .before .before .before .prior .ensures .0, c .before .before .later .ensures .0)))
+    (λ c. simp (c .before .before .before .previous .ensures .0, c .before .before .next .ensures .0)))

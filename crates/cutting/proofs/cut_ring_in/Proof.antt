@@ -10,7 +10,7 @@ cut-ring-in-spec =
     (tie.spec
     (λ c κs. search needs)
     (λ c κs. let w = c .before .before .before .before .before .before .before .before .before .before .before .before .before .before .before .before .before .before .pre in let r = ready (w .0) (c .before .before .before .before .before .before .before .before .start .ensures) in (r .0, r .1, omega (arith, r .2, w .1), omega (arith, r .2, w .2)))
-    (λ c κs. let w = c .before .before .before .before .before .before .before .before .before .before .before .before .before .before .before .before .before .before .before .before .before .before .before .before .before .before .before .before .before .before .pre in let k = c .before .before .before .before .before .before .before .before .before .before .before .cut-all .kept .1 .1 .1 .1 .0 in (omega (arith, k, w .2, w .3), omega (arith, k, w .2, w .0 .ring .most)))
+    (λ c κs. let w = c .before .before .before .before .before .before .before .before .before .before .before .before .before .before .before .before .before .before .before .before .before .before .before .before .before .before .before .before .before .before .pre in let k = c .before .before .before .before .before .before .before .before .before .before .before .cut-all .kept .1 .1 .1 .1 .0 in omega (arith, k, w .2, w .3))
     (λ c. search needs)
     (λ c. search needs)
     (λ c. search needs)

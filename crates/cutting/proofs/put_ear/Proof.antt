@@ -15,4 +15,4 @@ put-ear-spec =
     (λ c. simp length-set (omega arith))
     (λ c. search needs) (λ c. search needs) (λ c. search needs) (λ c. search needs) (λ c. search needs)
     (λ c. search needs) (λ c. search needs)
-    (λ c. simp (towards-suc, c .before .before .before .before .prior .ensures .0, c .before .before .before .later .ensures .0)))
+    (λ c. simp (towards-suc, c .before .before .before .before .previous .ensures .0, c .before .before .before .next .ensures .0)))

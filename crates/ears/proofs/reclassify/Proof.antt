@@ -1,7 +1,7 @@
 use native.Mathlib.Omega.{arith}
 use Rattle.ears.proofs.Places.{placed}
 use Rattle.ears.specs.Ears.{reclass}
-use Rattle.ears.specs.Apart.{turned}
+use Rattle.ears.specs.Changes.{turned}
 use borrow.Author.Needs.{needs}
 use Rattle.ears.proofs.reclassify.Statement.{statement}
 use Rattle.ears.proofs.reclassify.Tie as tie

@@ -7,8 +7,8 @@ triangle-at-spec =
     tie.close
     (tie.spec
     (λ c κs. search needs)
-    (λ c κs. (c .prior .ensures .1, c .before .before .before .pre .0 _ (c .prior .ensures .1)))
+    (λ c κs. (c .previous .ensures .1, c .before .before .before .pre .0 _ (c .previous .ensures .1)))
     (λ c κs. (c .before .before .before .before .pre .1, c .before .before .before .before .pre .0 _ (c .before .before .before .before .pre .1)))
     (λ c κs. search needs)
-    (λ c κs. (c .later .ensures .1, c .before .before .before .before .before .before .pre .0 _ (c .later .ensures .1)))
-    (λ c. simp (c .corner-at3 .ensures, c .before .later .ensures .0, c .before .before .corner-at2 .ensures, c .before .before .before .corner-at .ensures, c .before .before .before .before .prior .ensures .0)))
+    (λ c κs. (c .next .ensures .1, c .before .before .before .before .before .before .pre .0 _ (c .next .ensures .1)))
+    (λ c. simp (c .corner-at3 .ensures, c .before .next .ensures .0, c .before .before .corner-at2 .ensures, c .before .before .before .corner-at .ensures, c .before .before .before .before .previous .ensures .0)))

@@ -1,0 +1,3 @@
+pub mod Aparts
+pub mod Cuts
+pub mod Fars

@@ -4,8 +4,9 @@ use mathlib.Core.Path.{_≡_}
 use mathlib.Core.List.{List}
 use lib.Ieee.{binary64}
 use lib.Ieee.Bits.{ofBits-fits}
+use Rattle.vec3.specs.Vec.{cleared}
 use Rattle.wire.specs.Wire.{u64Of, floatOf, vecOf}
-use Rattle.minor_arc.specs.Answers.{cleared, clearedArc}
+use Rattle.arcs.specs.Answers.{clearedArc}
 use Rattle.minor_arc.proofs.Clears.{clear-once}
 use Rattle.exports.specs.Arcs.{arcAt}
 

@@ -12,8 +12,8 @@ use Rattle.laws.specs.Loop.{first}
 use Rattle.vec3.specs.declared.Vec3.{Vec3}
 use Rattle.wire.specs.Wire.{floatBytes, vecBytes}
 use Rattle.wire.proofs.Bytes.{three, eight}
-use Rattle.minor_arc.specs.Answers.{Told, refused, answer, judged, arcFault}
-use Rattle.minor_arc.proofs.Judged.{judged-hit, judged-none}
+use Rattle.arcs.specs.Answers.{Told, refused, answer, judged, arcFault}
+use Rattle.arcs.proofs.Judged.{judged-hit, judged-none}
 use Rattle.frames.specs.Left.{Left, left, refusalOf}
 use Rattle.numbers.specs.Choice.{if_then_else_}
 use Rattle.exports.specs.Arcs.{arcAt, lengthFault, arcJudged, nextJudged, endsJudged, numberOf, valueBytes, leave}

@@ -3,17 +3,16 @@ ghost use mathlib.Core.Path.{_≡_};
 ghost use mathlib.Core.List.{[], _∷_};
 ghost use Prim.Native.Nat.{ℕ, _≤_};
 ghost use lib.ListN.{length};
-ghost use Rattle.minor_arc.specs.Answers as Answers;
+ghost use Rattle.arcs.specs.Answers as Answers;
 ghost use Rattle.frames.specs.Left.{left};
 ghost use Rattle.exports.specs.Arcs as Arcs;
+use arcs::ArcMade;
+use arcs::ArcRelated;
+use arcs::Contained;
+use arcs::Met;
+use arcs::Sided;
 use frames::refusal;
 use minor_arc::MinorArc;
-use minor_arc::checked;
-use minor_arc::checked::ArcMade;
-use minor_arc::checked::ArcRelated;
-use minor_arc::checked::Contained;
-use minor_arc::checked::Met;
-use minor_arc::checked::Sided;
 use vec3::Vec3;
 
 fn length_fault(s: &[u8], n: usize) -> u8
@@ -40,7 +39,7 @@ fn arc_judged(s: &[u8]) -> u8
     if s.len() != 72 {
         return 1;
     }
-    checked::arc_fault(arc_at(s))
+    arcs::arc_fault(arc_at(s))
 }
 
 // The refusals of an arc, and then that of the length of what comes after it.
@@ -140,10 +139,7 @@ pub extern "C" fn desk_arc(start: &[u8], end: &[u8], out: &mut [u8]) -> u32
     if f != 0 {
         return refusal(f);
     }
-    leave_made(
-        out,
-        checked::new(wire::vec_at(start, 0), wire::vec_at(end, 0)),
-    )
+    leave_made(out, arcs::new(wire::vec_at(start, 0), wire::vec_at(end, 0)))
 }
 
 #[no_mangle]
@@ -153,7 +149,7 @@ pub extern "C" fn desk_arc_opposite(arc: &[u8], out: &mut [u8]) -> u32
     if arc.len() != 72 {
         return refusal(1);
     }
-    leave_made(out, checked::opposite(arc_at(arc)))
+    leave_made(out, arcs::opposite(arc_at(arc)))
 }
 
 #[no_mangle]
@@ -164,7 +160,7 @@ pub extern "C" fn desk_arc_side(arc: &[u8], position: &[u8]) -> u32
     if f != 0 {
         return refusal(f);
     }
-    sided(checked::side_of(arc_at(arc), wire::vec_at(position, 0)))
+    sided(arcs::side_of(arc_at(arc), wire::vec_at(position, 0)))
 }
 
 #[no_mangle]
@@ -175,7 +171,7 @@ pub extern "C" fn desk_arc_contains(arc: &[u8], position: &[u8]) -> u32
     if f != 0 {
         return refusal(f);
     }
-    held(checked::contains_position(arc_at(arc), wire::vec_at(position, 0)))
+    held(arcs::contains_position(arc_at(arc), wire::vec_at(position, 0)))
 }
 
 #[no_mangle]
@@ -186,7 +182,7 @@ pub extern "C" fn desk_arc_intersection(a: &[u8], b: &[u8], out: &mut [u8]) -> u
     if f != 0 {
         return refusal(f);
     }
-    leave_met(out, checked::intersection(arc_at(a), arc_at(b)))
+    leave_met(out, arcs::intersection(arc_at(a), arc_at(b)))
 }
 
 #[no_mangle]
@@ -197,5 +193,5 @@ pub extern "C" fn desk_arc_relate(a: &[u8], b: &[u8], out: &mut [u8]) -> u32
     if f != 0 {
         return refusal(f);
     }
-    leave_related(out, checked::relate(arc_at(a), arc_at(b)))
+    leave_related(out, arcs::relate(arc_at(a), arc_at(b)))
 }

@@ -1,5 +1,5 @@
 // Minor arcs, as spherical/minor_arc.rs has them: two positions and a normal, by value. Total on every float: a NaN fails each comparison.
-// The functions of `checked` judge what they are handed; those here do not, and are what loops call.
+// The functions of crate `arcs` judge what they are handed; those here do not, and are what loops call.
 ghost use mathlib.Core.Path.{_≡_};
 ghost use Rattle.vec3.specs.Vec.{stableUnit};
 ghost use Rattle.base.specs.Turns.{turnOf};
@@ -8,8 +8,6 @@ use angle::Angle;
 use base::Side;
 use vec3::Point;
 use vec3::Vec3;
-
-pub mod checked;
 
 pub struct MinorArc {
     pub start: Vec3,

@@ -1,4 +1,4 @@
-use Rattle.minor_arc.specs.Answers.{newAnswer}
+use Rattle.arcs.specs.Answers.{newAnswer}
 use Rattle.wire.specs.Wire.{vecOf}
 use Rattle.exports.proofs.Writes.{gone, went-on, start-long, end-long}
 use borrow.Author.Needs.{needs}

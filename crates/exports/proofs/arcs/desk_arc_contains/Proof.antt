@@ -1,4 +1,4 @@
-use Rattle.minor_arc.specs.Answers.{containsAnswer}
+use Rattle.arcs.specs.Answers.{containsAnswer}
 use Rattle.wire.specs.Wire.{vecOf}
 use Rattle.exports.specs.Arcs.{arcAt}
 use Rattle.exports.proofs.Writes.{gone-number, went-on-number, arc-long, next-long}

@@ -1,4 +1,4 @@
-use Rattle.minor_arc.specs.Answers.{intersectionAnswer}
+use Rattle.arcs.specs.Answers.{intersectionAnswer}
 use Rattle.exports.specs.Arcs.{arcAt}
 use Rattle.exports.proofs.Writes.{gone, went-on, arc-long, next-long}
 use borrow.Author.Needs.{needs}

@@ -1,4 +1,4 @@
-use Rattle.minor_arc.specs.Answers.{relateAnswer}
+use Rattle.arcs.specs.Answers.{relateAnswer}
 use Rattle.exports.specs.Arcs.{arcAt}
 use Rattle.exports.proofs.Writes.{gone, went-on, arc-long, next-long}
 use borrow.Author.Needs.{needs}

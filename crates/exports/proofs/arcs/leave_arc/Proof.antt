@@ -1,5 +1,5 @@
 use Rattle.exports.proofs.Writes.{no-room, room, three-written}
-use Rattle.minor_arc.specs.Answers.{vectors}
+use Rattle.arcs.specs.Answers.{vectors}
 use borrow.Author.Needs.{needs}
 use Rattle.exports.proofs.arcs.leave_arc.Statement.{statement}
 use Rattle.exports.proofs.arcs.leave_arc.Tie as tie

@@ -37,8 +37,8 @@ use Rattle.slicing.specs.Slicing as Slicing
 use Rattle.slicing.specs.Checking as Checking
 use Rattle.lines.specs.Lines.{Wrote}
 use Rattle.scenes.specs.Scenes.{sceneText}
-use Rattle.exports.specs.Arcs as Bytes
-use Rattle.exports.specs.Leaves as Leaves
+use Rattle.arc_exports.specs.Arcs as Bytes
+use Rattle.leaves.specs.Leaves as Leaves
 
 -- what satisfies the contract is one
 abbrev pub One : {A : Type 0} → (A → Type 0) → Type 0

@@ -12,8 +12,8 @@ use Rattle.base.specs.declared.Side.{Side}
 use Rattle.base.specs.declared.Side.the-variants.{Left, Right, Collinear}
 use Rattle.judge.specs.Judge.{faultOf, vectorFault}
 use Rattle.minor_arc.specs.declared.MinorArc.{MinorArc}
-use Rattle.minor_arc.specs.declared.MinorArcRelation.{MinorArcRelation}
-use Rattle.minor_arc.specs.declared.MinorArcRelation.the-variants.{Disjoint, Intersecting, Touching, Overlapping}
+use Rattle.arc_relations.specs.declared.MinorArcRelation.{MinorArcRelation}
+use Rattle.arc_relations.specs.declared.MinorArcRelation.the-variants.{Disjoint, Intersecting, Touching, Overlapping}
 use Rattle.arcs.specs.declared.ArcMade.{ArcMade}
 use Rattle.arcs.specs.declared.ArcMade.the-variants as Made
 use Rattle.arcs.specs.declared.Sided.{Sided}
@@ -24,7 +24,8 @@ use Rattle.arcs.specs.declared.Met.{Met}
 use Rattle.arcs.specs.declared.Met.the-variants as Met
 use Rattle.arcs.specs.declared.ArcRelated.{ArcRelated}
 use Rattle.arcs.specs.declared.ArcRelated.the-variants as Related
-use Rattle.minor_arc.specs.Arcs.{arcOf, reversed, arcSide, onArc, meetingOf, meetingPoint, relationOf}
+use Rattle.minor_arc.specs.Arcs.{arcOf, reversed, arcSide, onArc, meetingOf, meetingPoint}
+use Rattle.arc_relations.specs.Relations.{relationOf}
 
 -- a refusal's number alone, or an answer's number and the vectors that come with it
 pub data Told : Type 0 where

@@ -3,9 +3,9 @@
 ghost use mathlib.Core.Path.{_≡_};
 ghost use mathlib.Core.Bool.{Bool};
 ghost use Rattle.arcs.specs.Answers as Answers;
+use arc_relations::MinorArcRelation;
 use base::Side;
 use minor_arc::MinorArc;
-use minor_arc::MinorArcRelation;
 use vec3::Point;
 use vec3::Vec3;
 
@@ -178,5 +178,5 @@ pub fn relate(a: MinorArc, b: MinorArc) -> ArcRelated
     if f != 0 {
         return ArcRelated::Refused(f);
     }
-    tell_relation(one.relate(other))
+    tell_relation(arc_relations::relate(one, other))
 }

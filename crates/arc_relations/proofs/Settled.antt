@@ -6,8 +6,9 @@ use Rattle.numbers.specs.Near.{abs}
 use Rattle.vec3.specs.declared.Point.the-variants.{Absent}
 use Rattle.vec3.specs.Vec.{axis-x, axis-y, axis-z, unitVec, axisFor, orthogonalTo}
 use Rattle.base.specs.Sides.{signOf, retestOf, sideOf}
-use Rattle.minor_arc.specs.Arcs.{arcOf, relationOf, meetingOf, meetingIn, meetingPoint, collinearOf, considered, pushed, spanOf, nearer, locationOf}
-use Rattle.minor_arc.specs.declared.MinorArcRelation.the-variants.{Touching, Overlapping}
+use Rattle.minor_arc.specs.Arcs.{arcOf, meetingOf, meetingIn, meetingPoint, nearer, locationOf}
+use Rattle.arc_relations.specs.Relations.{relationOf, collinearOf, considered, pushed, spanOf}
+use Rattle.arc_relations.specs.declared.MinorArcRelation.the-variants.{Touching, Overlapping}
 
 pub shared-end : relationOf (arcOf axis-y axis-x) (arcOf axis-y axis-z) ≡ Touching axis-y
 unfolding relationOf meetingOf meetingIn collinearOf considered pushed spanOf nearer locationOf sideOf signOf retestOf orthogonalTo unitVec axisFor abs rootOf add sub mul div neg lt le eq ofBits

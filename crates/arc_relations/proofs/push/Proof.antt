@@ -1,7 +1,7 @@
 use borrow.Author.Needs.{needs}
-use Rattle.minor_arc.specs.Arcs.{pushed}
-use Rattle.minor_arc.proofs.push.Statement.{statement}
-use Rattle.minor_arc.proofs.push.Tie as tie
+use Rattle.arc_relations.specs.Relations.{pushed}
+use Rattle.arc_relations.proofs.push.Statement.{statement}
+use Rattle.arc_relations.proofs.push.Tie as tie
 
 pub push-spec : {M : Type 1} → statement M
 unfolding pushed

@@ -1,6 +1,6 @@
 use borrow.Author.Needs.{needs}
-use Rattle.minor_arc.proofs.MinorArc.relate.Statement.{statement}
-use Rattle.minor_arc.proofs.MinorArc.relate.Tie as tie
+use Rattle.arc_relations.proofs.relate.Statement.{statement}
+use Rattle.arc_relations.proofs.relate.Tie as tie
 
 pub relate-spec : {M : Type 1} → statement M
 relate-spec =

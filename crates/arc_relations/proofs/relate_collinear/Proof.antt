@@ -1,6 +1,6 @@
-use Rattle.minor_arc.specs.Arcs.{collinearOf}
-use Rattle.minor_arc.proofs.MinorArc.relate_collinear.Statement.{statement}
-use Rattle.minor_arc.proofs.MinorArc.relate_collinear.Tie as tie
+use Rattle.arc_relations.specs.Relations.{collinearOf}
+use Rattle.arc_relations.proofs.relate_collinear.Statement.{statement}
+use Rattle.arc_relations.proofs.relate_collinear.Tie as tie
 
 pub relate-collinear-spec : {M : Type 1} → statement M
 unfolding collinearOf

@@ -1,7 +1,7 @@
-use Rattle.minor_arc.specs.Arcs.{relationOf}
+use Rattle.arc_relations.specs.Relations.{relationOf}
 use borrow.Author.Needs.{needs}
-use Rattle.minor_arc.proofs.MinorArc.relate_at.Statement.{statement}
-use Rattle.minor_arc.proofs.MinorArc.relate_at.Tie as tie
+use Rattle.arc_relations.proofs.relate_at.Statement.{statement}
+use Rattle.arc_relations.proofs.relate_at.Tie as tie
 
 pub relate-at-spec : {M : Type 1} → statement M
 unfolding relationOf

@@ -1,6 +1,6 @@
-use Rattle.minor_arc.specs.Arcs.{spanOf}
-use Rattle.minor_arc.proofs.MinorArc.span.Statement.{statement}
-use Rattle.minor_arc.proofs.MinorArc.span.Tie as tie
+use Rattle.arc_relations.specs.Relations.{spanOf}
+use Rattle.arc_relations.proofs.span.Statement.{statement}
+use Rattle.arc_relations.proofs.span.Tie as tie
 
 pub span-spec : {M : Type 1} → statement M
 unfolding spanOf

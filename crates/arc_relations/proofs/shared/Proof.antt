@@ -1,6 +1,6 @@
 use borrow.Author.Needs.{needs}
-use Rattle.minor_arc.proofs.MinorArc.shared.Statement.{statement}
-use Rattle.minor_arc.proofs.MinorArc.shared.Tie as tie
+use Rattle.arc_relations.proofs.shared.Statement.{statement}
+use Rattle.arc_relations.proofs.shared.Tie as tie
 
 pub shared-spec : {M : Type 1} → statement M
 shared-spec =

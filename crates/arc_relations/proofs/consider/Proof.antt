@@ -1,6 +1,6 @@
-use Rattle.minor_arc.specs.Arcs.{considered}
-use Rattle.minor_arc.proofs.MinorArc.consider.Statement.{statement}
-use Rattle.minor_arc.proofs.MinorArc.consider.Tie as tie
+use Rattle.arc_relations.specs.Relations.{considered}
+use Rattle.arc_relations.proofs.consider.Statement.{statement}
+use Rattle.arc_relations.proofs.consider.Tie as tie
 
 pub consider-spec : {M : Type 1} → statement M
 unfolding considered

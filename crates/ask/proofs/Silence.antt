@@ -11,6 +11,7 @@ use borrow.Author.Tests.{ltb-false, leb-true, eqb-true, eqb-false}
 use Rattle.numbers.specs.Choice.{if_then_else_}
 use Rattle.laws.proofs.Firsts.{first-zero}
 use Rattle.vec3.specs.declared.Vec3.{Vec3}
+use Rattle.vec3.specs.Vec.{cleared}
 use Rattle.cutting.specs.declared.Insides.{Insides}
 use Rattle.cutting.specs.declared.Insides.the-variants.{Absent, Two}
 use Rattle.header.specs.declared.State.{State}
@@ -20,7 +21,7 @@ use Rattle.header.specs.Loops.{countFits, loopFault}
 use Rattle.header.proofs.Sounds.{sound}
 use Rattle.places.specs.Places.{inTriangle}
 use Rattle.ask.specs.Answers.{Told, refused, answer, judged}
-use Rattle.ask.specs.Places.{cleared, insideCode, placeNoCorner, placeWithout, placeBy, placeOf}
+use Rattle.ask.specs.Places.{insideCode, placeNoCorner, placeWithout, placeBy, placeOf}
 use Rattle.ask.specs.Questions.{queryFault, placeAnswer}
 
 -- a loop that can say what is outside of it

@@ -6,7 +6,7 @@ use lib.Dec.{eqb, ltb}
 use lib.Ieee.{Float}
 use Rattle.numbers.specs.Choice.{if_then_else_}
 use Rattle.vec3.specs.declared.Vec3.{Vec3}
-use Rattle.vec3.specs.Vec.{vec}
+use Rattle.vec3.specs.Vec.{cleared}
 use Rattle.cap.specs.declared.Cap.{Cap}
 use Rattle.cutting.specs.declared.Insides.{Insides}
 use Rattle.cutting.specs.declared.Insides.the-variants.{Absent, Two}
@@ -16,9 +16,6 @@ use Rattle.header.specs.declared.Header.{Header}
 use Rattle.places.specs.Places.{insideBy, inTriangle}
 
 -- "Every position or normal handed in is made free of -0.0"
-abbrev pub cleared : Vec3 → Vec3
-cleared v = vec (v .x) (v .y) (v .z)
-
 abbrev pub clearedCap : Cap → Cap
 clearedCap c = record { centre = cleared (c .centre); radius = c .radius }
 

@@ -9,6 +9,7 @@ use Rattle.numbers.specs.Choice.{if_then_else_}
 use lib.Ieee.{Float}
 use Rattle.laws.specs.Loop.{first}
 use Rattle.vec3.specs.declared.Vec3.{Vec3}
+use Rattle.vec3.specs.Vec.{cleared}
 use Rattle.judge.specs.Judge.{faultOf}
 use Rattle.header.specs.declared.Header.{Header}
 use Rattle.header.specs.declared.State.{State}
@@ -17,7 +18,7 @@ use Rattle.header.specs.Loops.{loopFault}
 use Rattle.edges.specs.Edges.{onEdge, hasVertex}
 use Rattle.shapes.specs.Shapes.{convex, simple, sameRings}
 use Rattle.ask.specs.Answers.{Told, answer, boolTold, judged}
-use Rattle.ask.specs.Places.{cleared, placeOf}
+use Rattle.ask.specs.Places.{placeOf}
 
 unfoldable pub queryFault : Header → List Float → List Float → List ℕ → Vec3 → ℕ
 queryFault h ps ns cs p = first (loopFault h ps ns cs) (faultOf p)

@@ -24,21 +24,14 @@ pub enum Answered {
     Yes,
 }
 
-// A vector as it is read: free of -0.0.
-fn clear(v: Vec3) -> Vec3
-    ensures { λ r. ⌜ r ≡ P.cleared v ⌝ }
-{
-    Vec3::new(v.x, v.y, v.z)
-}
-
-// A cap as it is read.
+// A cap as it is read: its centre free of -0.0.
 pub fn cleared_cap(c: Cap) -> Cap
     ensures { λ r. ⌜ r ≡ P.clearedCap c ⌝ }
 {
     let centre = c.centre;
     let radius = c.radius;
     Cap {
-        centre: clear(centre),
+        centre: centre.clear(),
         radius,
     }
 }
@@ -86,8 +79,8 @@ fn inside_with(h: Header, a: Vec3, b: Vec3, positions: &[f64], normals: &[f64], 
     let cap = h.cap;
     places::inside_by(
         cleared_cap(cap),
-        clear(a),
-        clear(b),
+        a.clear(),
+        b.clear(),
         positions,
         normals,
         h.count,
@@ -127,7 +120,7 @@ pub fn contains_position(
 ) -> Placed
     ensures { λ r. ⌜ An.toldPlaced r ≡ Q.placeAnswer h (now (positions .entry)) (now (normals .entry)) (now (classes .entry)) p ⌝ }
 {
-    let q = clear(p);
+    let q = p.clear();
     let f = query_fault(h, positions, normals, classes, q);
     if f != 0 {
         return Placed::Refused(f);
@@ -145,7 +138,7 @@ pub fn has_vertex(
 ) -> Answered
     ensures { λ r. ⌜ An.toldAnswered r ≡ Q.vertexAnswer h (now (positions .entry)) (now (normals .entry)) (now (classes .entry)) p ⌝ }
 {
-    let q = clear(p);
+    let q = p.clear();
     let f = query_fault(h, positions, normals, classes, q);
     if f != 0 {
         return Answered::Refused(f);
@@ -163,7 +156,7 @@ pub fn any_edge_contains_position(
 ) -> Answered
     ensures { λ r. ⌜ An.toldAnswered r ≡ Q.onEdgeAnswer h (now (positions .entry)) (now (normals .entry)) (now (classes .entry)) p ⌝ }
 {
-    let q = clear(p);
+    let q = p.clear();
     let f = query_fault(h, positions, normals, classes, q);
     if f != 0 {
         return Answered::Refused(f);

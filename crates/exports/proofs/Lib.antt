@@ -1,4 +1,1 @@
-pub mod Writes
-pub mod Tables
 pub mod Unique
-pub mod Once

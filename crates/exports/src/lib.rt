@@ -1,5 +1,5 @@
 // C-style exports over numbers and slices, for hosts that link libexports.a. Everything is little-endian; a refusal is 65,536 plus its number.
-pub mod arcs;
 pub mod floats;
-mod leaves;
 pub mod loops;
+pub mod minor_arcs;
+mod probes;

@@ -16,9 +16,8 @@ use Rattle.root.proofs.Units.{same-units, shape}
 use Rattle.numbers.proofs.Rounds.{is-true}
 use Rattle.numbers.specs.F64 as F
 use Rattle.minor_arc.specs.declared.MinorArc.{MinorArc}
-use Rattle.vec3.specs.Vec.{vec}
+use Rattle.vec3.specs.Vec.{vec, cleared}
 use Rattle.minor_arc.specs.Arcs.{Plain, PlainVec, reversed}
-use Rattle.minor_arc.specs.Answers.{cleared}
 
 -- ---- what fits is rounded to itself
 fits-either : (s t : Bool) (m : ℕ) (e : ℤ) → T (fits binary64 (fin s m e)) → T (fits binary64 (fin t m e))

@@ -1,5 +1,2 @@
-pub mod Judged
 pub mod Clears
-pub mod Unique
-pub mod Settled
 pub mod Missing

@@ -1,4 +1,4 @@
--- A candidate that misses an arc: the arc has no meeting point there with another, and if the two are not collinear they are disjoint. Assumes nothing.
+-- A candidate that misses an arc: the arc has no meeting point there with another. Assumes nothing.
 use mathlib.Core.Path.{_≡_, refl, sym, ap, _∙_}
 use mathlib.Core.Bool.{Bool, true, false, _||_, false≢true}
 use Rattle.numbers.specs.Choice.{if_then_else_}
@@ -10,12 +10,11 @@ use Rattle.base.specs.declared.Side.the-variants.{Left, Right, Collinear}
 use Rattle.base.specs.Sides.{sideOf, settlesRight, settlesLeft}
 use Rattle.base.proofs.Settling.{settled-right, settled-left}
 use Rattle.minor_arc.specs.declared.MinorArc.{MinorArc}
-use Rattle.minor_arc.specs.declared.MinorArcRelation.the-variants.{Disjoint}
 use Rattle.minor_arc.specs.declared.Location.{Location}
 use Rattle.minor_arc.specs.declared.Location.the-variants.{Exterior}
 use Rattle.minor_arc.specs.declared.Meeting.{Meeting}
 use Rattle.minor_arc.specs.declared.Meeting.the-variants as M
-use Rattle.minor_arc.specs.Arcs.{placed, locationOf, nearer, missed, meetAt, meetingIn, meetingOf, meetingPoint, collinearOf, settled, relationOf}
+use Rattle.minor_arc.specs.Arcs.{placed, locationOf, nearer, missed, meetAt, meetingIn, meetingOf, meetingPoint}
 
 past-end : (s : Side) → placed s Left ≡ Exterior
 past-end Right = refl
@@ -35,7 +34,7 @@ outside a i h =
     beyond (sideOf p (a .normal) (a .start)) (sideOf p (a .normal) (a .end)) (settlesRight (dot p (cross (a .normal) (a .start)))) (settlesLeft (dot p (cross (a .normal) (a .end)))) h
     (settled-right p (a .normal) (a .start)) (settled-left p (a .normal) (a .end))
 
-apart : (a b : MinorArc) (i : Vec3) → missed a i ≡ true → meetingIn a b (nearer (a .start) i) ≡ M.Apart
+pub apart : (a b : MinorArc) (i : Vec3) → missed a i ≡ true → meetingIn a b (nearer (a .start) i) ≡ M.Apart
 unfolding meetingIn
 apart a b i h = rw (outside a i h)
 
@@ -47,7 +46,3 @@ module _ (a b : MinorArc) {i : Vec3} (e : i ≡ stableUnit (a .normal) (b .norma
   pub missed-none : Absent ≡ meetingPoint (meetingOf a b)
   unfolding meetingOf
   missed-none = rw (← e) (sym (either-way (same i origin) (meetingIn a b (nearer (a .start) i)) (apart a b i h)))
-
-  pub missed-disjoint : same i origin ≡ false → Disjoint ≡ relationOf a b
-  unfolding meetingOf relationOf
-  missed-disjoint o = rw (← e, o, apart a b i h)

@@ -1,8 +1,8 @@
--- Minor arcs: where a point of an arc's great circle lies, where two arcs meet, and how they relate. Definitions only.
+-- Minor arcs: where a point of an arc's great circle lies, and where two arcs meet. Definitions only.
 use mathlib.Core.Bool.{Bool, true, false, _&&_, _||_}
 use mathlib.Core.Path.{_≡_}
 use lib.Dec.{T}
-use lib.Ieee.{Float, binary64, fits, neg, lt, le}
+use lib.Ieee.{Float, binary64, fits, neg, lt}
 use Rattle.numbers.specs.Choice.{if_then_else_}
 use Rattle.numbers.specs.F64.{zero}
 use Rattle.numbers.specs.Near.{near}
@@ -16,12 +16,8 @@ use Rattle.base.specs.Sides.{sideOf, settlesRight, settlesLeft}
 use Rattle.minor_arc.specs.declared.MinorArc.{MinorArc}
 use Rattle.minor_arc.specs.declared.Location.{Location}
 use Rattle.minor_arc.specs.declared.Location.the-variants.{Endpoint, Interior, Exterior}
-use Rattle.minor_arc.specs.declared.MinorArcRelation.{MinorArcRelation}
-use Rattle.minor_arc.specs.declared.MinorArcRelation.the-variants.{Disjoint, Intersecting, Touching, Overlapping}
 use Rattle.minor_arc.specs.declared.Meeting.{Meeting}
 use Rattle.minor_arc.specs.declared.Meeting.the-variants as M
-use Rattle.minor_arc.specs.declared.Found.{Found}
-use Rattle.minor_arc.specs.declared.Found.the-variants.{None, One, Two}
 
 abbrev pub arcOf : Vec3 → Vec3 → MinorArc
 arcOf a b = record { start = a; end = b; normal = orthogonalTo a b }
@@ -101,37 +97,3 @@ meetingPoint M.Apart = Absent
 meetingPoint M.Collinear = Absent
 meetingPoint (M.Crossing p) = At p
 meetingPoint (M.Touching p) = At p
-
--- at most two different points, the first two that come
-unfoldable pub pushed : Found → Vec3 → Found
-pushed None v = One v
-pushed (One p) v = if same p v then One p else Two p v
-pushed (Two p q) v = Two p q
-
-unfoldable pub considered : Found → MinorArc → Vec3 → Found
-considered f a v = if within (locationOf a v) then pushed f v else f
-
--- from p to q or from q to p, in the direction of a: the larger product with its start comes first
-unfoldable pub spanOf : MinorArc → Vec3 → Vec3 → MinorArc
-spanOf a p q =
-    if le (dot q (a .start)) (dot p (a .start))
-    then (record { start = p; end = q; normal = a .normal })
-    else (record { start = q; end = p; normal = a .normal })
-
-abbrev pub shared : MinorArc → Found → MinorArcRelation
-shared a None = Disjoint
-shared a (One p) = Touching p
-shared a (Two p q) = Overlapping (spanOf a p q)
-
--- of the four ends those that are on the other arc: b's start, b's end, a's start, a's end
-unfoldable pub collinearOf : MinorArc → MinorArc → MinorArcRelation
-collinearOf a b = shared a (considered (considered (considered (considered None a (b .start)) a (b .end)) b (a .start)) b (a .end))
-
-abbrev pub settled : MinorArcRelation → Meeting → MinorArcRelation
-settled r M.Apart = Disjoint
-settled r M.Collinear = r
-settled r (M.Crossing p) = Intersecting p
-settled r (M.Touching p) = Touching p
-
-unfoldable pub relationOf : MinorArc → MinorArc → MinorArcRelation
-relationOf a b = settled (collinearOf a b) (meetingOf a b)

@@ -1,5 +1,5 @@
 // Minor arcs, as spherical/minor_arc.rs has them: two positions and a normal, by value. Total on every float: a NaN fails each comparison.
-// The functions of `checked` judge what they are handed; those here do not, and are what loops call.
+// The functions of crate `arcs` judge what they are handed; those here do not, and are what loops call.
 ghost use mathlib.Core.Path.{_≡_};
 ghost use Rattle.vec3.specs.Vec.{stableUnit};
 ghost use Rattle.base.specs.Turns.{turnOf};
@@ -9,20 +9,10 @@ use base::Side;
 use vec3::Point;
 use vec3::Vec3;
 
-pub mod checked;
-
 pub struct MinorArc {
     pub start: Vec3,
     pub end: Vec3,
     pub normal: Vec3,
-}
-
-// How two arcs relate.
-pub enum MinorArcRelation {
-    Disjoint,
-    Intersecting(Vec3),
-    Touching(Vec3),
-    Overlapping(MinorArc),
 }
 
 // Where a point of an arc's great circle lies.
@@ -32,19 +22,12 @@ pub enum Location {
     Exterior,
 }
 
-// Where two arcs meet. Collinear ones, whose great circles are one, are left to `relate_collinear`.
+// Where two arcs meet. Collinear ones, whose great circles are one, are left to crate `arc_relations`.
 pub enum Meeting {
     Apart,
     Collinear,
     Crossing(Vec3),
     Touching(Vec3),
-}
-
-// At most two different points.
-pub enum Found {
-    None,
-    One(Vec3),
-    Two(Vec3, Vec3),
 }
 
 // By the sides of a point against (normal, start) and (normal, end).
@@ -66,7 +49,7 @@ fn place(s: Side, e: Side) -> Location
     }
 }
 
-fn is_within(l: Location) -> bool
+pub fn is_within(l: Location) -> bool
     ensures { λ r. ⌜ r ≡ Arcs.within l ⌝ }
 {
     match l {
@@ -99,21 +82,6 @@ fn meet_at(p: Vec3, a: Location, b: Location) -> Meeting
             Location::Endpoint => Meeting::Touching(p),
             Location::Interior => Meeting::Crossing(p),
         },
-    }
-}
-
-// One candidate more: the first two that differ are kept.
-fn push(f: Found, v: Vec3) -> Found
-    ensures { λ r. ⌜ r ≡ Arcs.pushed f v ⌝ }
-{
-    match f {
-        Found::None => Found::One(v),
-        Found::One(p) => if p.equals(v) {
-            Found::One(p)
-        } else {
-            Found::Two(p, v)
-        },
-        Found::Two(p, q) => Found::Two(p, q),
     }
 }
 
@@ -161,7 +129,7 @@ impl MinorArc {
     }
 
     // Where a point of this arc's great circle lies: the source's `triage_on_minor_arc`.
-    fn location(self, v: Vec3) -> Location
+    pub fn location(self, v: Vec3) -> Location
         ensures { λ r. ⌜ r ≡ Arcs.locationOf self v ⌝ }
     {
         let s = base::side_of(v, self.normal, self.start);
@@ -203,7 +171,7 @@ impl MinorArc {
     }
 
     // `meeting` with the unit vector of the normals' product at hand, as a caller has it who works out many of them first.
-    fn meeting_at(self, o: MinorArc, i: Vec3) -> Meeting
+    pub fn meeting_at(self, o: MinorArc, i: Vec3) -> Meeting
         requires { ⌜ i ≡ stableUnit (self .normal) (o .normal) ⌝ }
         ensures { λ r. ⌜ r ≡ Arcs.meetingOf self o ⌝ }
     {
@@ -239,75 +207,5 @@ impl MinorArc {
         ensures { λ r. ⌜ r ≡ Arcs.meetingPoint (Arcs.meetingOf self o) ⌝ }
     {
         self.intersection_at(o, self.normal.stable_cross_prod_unit(o.normal))
-    }
-
-    // The candidate v, if it is on this arc.
-    fn consider(self, f: Found, v: Vec3) -> Found
-        ensures { λ r. ⌜ r ≡ Arcs.considered f self v ⌝ }
-    {
-        if is_within(self.location(v)) {
-            push(f, v)
-        } else {
-            f
-        }
-    }
-
-    // The arc between p and q in this arc's direction, with this arc's normal.
-    fn span(self, p: Vec3, q: Vec3) -> MinorArc
-        ensures { λ r. ⌜ r ≡ Arcs.spanOf self p q ⌝ }
-    {
-        let n = self.normal;
-        if p.dot_prod(self.start) >= q.dot_prod(self.start) {
-            MinorArc {
-                start: p,
-                end: q,
-                normal: n,
-            }
-        } else {
-            MinorArc {
-                start: q,
-                end: p,
-                normal: n,
-            }
-        }
-    }
-
-    fn shared(self, f: Found) -> MinorArcRelation
-        ensures { λ r. ⌜ r ≡ Arcs.shared self f ⌝ }
-    {
-        match f {
-            Found::None => MinorArcRelation::Disjoint,
-            Found::One(p) => MinorArcRelation::Touching(p),
-            Found::Two(p, q) => MinorArcRelation::Overlapping(self.span(p, q)),
-        }
-    }
-
-    // Each end of what two arcs of one great circle share is one of their four ends.
-    fn relate_collinear(self, o: MinorArc) -> MinorArcRelation
-        ensures { λ r. ⌜ r ≡ Arcs.collinearOf self o ⌝ }
-    {
-        let f = self.consider(Found::None, o.start);
-        let g = self.consider(f, o.end);
-        let h = o.consider(g, self.start);
-        self.shared(o.consider(h, self.end))
-    }
-
-    // `relate` with the unit vector of the normals' product at hand.
-    pub fn relate_at(self, o: MinorArc, i: Vec3) -> MinorArcRelation
-        requires { ⌜ i ≡ stableUnit (self .normal) (o .normal) ⌝ }
-        ensures { λ r. ⌜ r ≡ Arcs.relationOf self o ⌝ }
-    {
-        match self.meeting_at(o, i) {
-            Meeting::Apart => MinorArcRelation::Disjoint,
-            Meeting::Collinear => self.relate_collinear(o),
-            Meeting::Crossing(p) => MinorArcRelation::Intersecting(p),
-            Meeting::Touching(p) => MinorArcRelation::Touching(p),
-        }
-    }
-
-    pub fn relate(self, o: MinorArc) -> MinorArcRelation
-        ensures { λ r. ⌜ r ≡ Arcs.relationOf self o ⌝ }
-    {
-        self.relate_at(o, self.normal.stable_cross_prod_unit(o.normal))
     }
 }

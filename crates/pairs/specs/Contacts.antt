@@ -5,9 +5,9 @@ use mathlib.Core.List.{List}
 use lib.Ieee.{Float}
 use Rattle.laws.specs.Loop.{anyOf}
 use Rattle.minor_arc.specs.declared.MinorArc.{MinorArc}
-use Rattle.minor_arc.specs.declared.MinorArcRelation.{MinorArcRelation}
-use Rattle.minor_arc.specs.declared.MinorArcRelation.the-variants.{Disjoint, Intersecting, Touching, Overlapping}
-use Rattle.minor_arc.specs.Arcs.{relationOf}
+use Rattle.arc_relations.specs.declared.MinorArcRelation.{MinorArcRelation}
+use Rattle.arc_relations.specs.declared.MinorArcRelation.the-variants.{Disjoint, Intersecting, Touching, Overlapping}
+use Rattle.arc_relations.specs.Relations.{relationOf}
 use Rattle.edges.specs.Edges.{edgeAt}
 use Rattle.pairs.specs.declared.Contact.{Contact}
 use Rattle.pairs.specs.declared.Contact.the-variants.{Apart, Touched, Crossed}

@@ -4,13 +4,13 @@ ghost use mathlib.Core.Path.{_≡_};
 ghost use mathlib.Core.Bool.{false};
 ghost use Prim.Native.Nat.{_+_, _-_, _*_, _≤_, _<_};
 ghost use lib.ListN.{length};
-ghost use Rattle.minor_arc.specs.Arcs.{relationOf};
+ghost use Rattle.arc_relations.specs.Relations.{relationOf};
 ghost use Rattle.edges.specs.Blocks as B;
 ghost use Rattle.edges.specs.Edges.{edgeAt};
 ghost use Rattle.pairs.specs.Contacts as C;
 ghost use Rattle.pairs.specs.Probes as P;
+use arc_relations::MinorArcRelation;
 use minor_arc::MinorArc;
-use minor_arc::MinorArcRelation;
 use vec3::Point;
 use vec3::Vec3;
 
@@ -86,7 +86,7 @@ fn relation_at(
     if !c.equals(Vec3::ZERO) & a.misses(c) {
         return MinorArcRelation::Disjoint;
     }
-    a.relate_at(edges::edge(others, theirs, m, j), c)
+    arc_relations::relate_at(a, edges::edge(others, theirs, m, j), c)
 }
 
 // How an arc stands to the edges from `from` up to `to`, with their candidates at hand: the first crossing ends it, a touch is remembered.

@@ -3,9 +3,9 @@
 ghost use mathlib.Core.Path.{_≡_};
 ghost use Prim.Native.Nat.{_+_, _≤_, _<_};
 ghost use lib.ListN.{length};
-use exports::arcs;
 use exports::floats;
 use exports::loops;
+use exports::minor_arcs;
 use libc::STDOUT_FILENO;
 
 // What came of a record.
@@ -67,21 +67,21 @@ fn ask_loops(export: u64, a: &[u8], b: &[u8], out: &mut [u8]) -> u32 {
 
 fn ask_arcs(export: u64, a: &[u8], b: &[u8], out: &mut [u8]) -> u32 {
     if export == 12 {
-        return arcs::desk_arc(a, b, out);
+        return minor_arcs::desk_arc(a, b, out);
     }
     if export == 13 {
-        return arcs::desk_arc_opposite(a, out);
+        return minor_arcs::desk_arc_opposite(a, out);
     }
     if export == 14 {
-        return arcs::desk_arc_side(a, b);
+        return minor_arcs::desk_arc_side(a, b);
     }
     if export == 15 {
-        return arcs::desk_arc_contains(a, b);
+        return minor_arcs::desk_arc_contains(a, b);
     }
     if export == 16 {
-        return arcs::desk_arc_intersection(a, b, out);
+        return minor_arcs::desk_arc_intersection(a, b, out);
     }
-    arcs::desk_arc_relate(a, b, out)
+    minor_arcs::desk_arc_relate(a, b, out)
 }
 
 // The port's answer, by the export's number.

@@ -6,7 +6,7 @@ use Rattle.numbers.specs.Near.{abs}
 use Rattle.root.specs.Root.{rootOf}
 use Rattle.laws.specs.Loop.{firstOf, anyOf, firstAt, turns, flat}
 use Rattle.vec3.specs.declared.Vec3.{Vec3}
-use Rattle.vec3.specs.Vec.{same, unitVec, axisFor, orthogonalTo}
+use Rattle.vec3.specs.Vec.{cleared, same, unitVec, axisFor, orthogonalTo}
 use Rattle.angle.specs.Arctan.{size, sumOf, acute, quadrant, atan2}
 use Rattle.base.specs.Sides.{signOf, retestOf, sideOf}
 use Rattle.base.specs.Turns.{sineOf}
@@ -19,7 +19,6 @@ use Rattle.ears.specs.Ears.{blocks, ear, reclass, recut, cutAt}
 use Rattle.cutting.specs.Cutting.{cutting, outOf}
 use Rattle.header.specs.Loops.{shapeFault, threesOf, ringFault, classesFault, cutFault, checkFault, capFault, vectorsFault, loopFault}
 use Rattle.build.specs.Build.{listFault, roomFault, refusal, ringHeader, made, out}
-use Rattle.ask.specs.Places.{cleared}
 use Rattle.ask.specs.Questions.{pairFault}
 use Rattle.checker.specs.Accepted.{fitsAt, sameNumbers, accepts, accepted}
 use Rattle.triangles.specs.Triangles.{ringOut, cutOut, acceptsAnswer}

@@ -8,7 +8,7 @@ use lib.Ieee.{Float, binary64, ofBits}
 use Rattle.numbers.specs.F64.{zero, two, four}
 use Rattle.root.specs.Root.{rootOf}
 use Rattle.vec3.specs.declared.Vec3.{Vec3}
-use Rattle.vec3.specs.Vec.{axis-x, axis-y, axis-z, same, coords}
+use Rattle.vec3.specs.Vec.{cleared, axis-x, axis-y, axis-z, same, coords}
 use Rattle.base.specs.declared.Side.the-variants.{Left, Right, Collinear}
 use Rattle.base.specs.Sides.{sideOf}
 use Rattle.ring.specs.Ring.{opened}
@@ -18,7 +18,6 @@ use Rattle.header.specs.declared.State.the-variants.{Ring}
 use Rattle.header.specs.Loops.{emptyHeader, fullHeader}
 use Rattle.build.specs.Build.{Told, refused, loop, Out, out, kept}
 use Rattle.ask.specs.Answers as Answers
-use Rattle.ask.specs.Places.{cleared}
 use Rattle.triangles.specs.Triangles as Triangles
 use Rattle.triangles.specs.Triangles.{cutOut, acceptsAnswer}
 use Rattle.relate.specs.Relations.{relateAnswer}

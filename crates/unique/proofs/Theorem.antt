@@ -3,7 +3,7 @@ use Prim.Native.Nat.{ℕ, zero, suc}
 use mathlib.Core.Path.{_≡_, refl, sym, ap, _∙_}
 use mathlib.Core.List.{List}
 use lib.Ieee.{Float}
-use Rattle.minor_arc.proofs.Unique.{one-made, one-sided, one-contained, one-met, one-related}
+use Rattle.arcs.proofs.Unique.{one-made, one-sided, one-contained, one-met, one-related}
 use Rattle.build.specs.declared.Built.{Built}
 use Rattle.build.specs.Build as Build
 use Rattle.build.proofs.Unique.{told-apart}

@@ -8,12 +8,12 @@ use Rattle.root.specs.Root.{rootOf}
 use Rattle.angle.specs.Arctan.{atan2}
 use Rattle.vec3.specs.declared.Vec3.{Vec3}
 use Rattle.minor_arc.specs.declared.MinorArc.{MinorArc}
-use Rattle.minor_arc.specs.declared.checked.ArcMade.{ArcMade}
-use Rattle.minor_arc.specs.declared.checked.Sided.{Sided}
-use Rattle.minor_arc.specs.declared.checked.Contained.{Contained}
-use Rattle.minor_arc.specs.declared.checked.Met.{Met}
-use Rattle.minor_arc.specs.declared.checked.ArcRelated.{ArcRelated}
-use Rattle.minor_arc.specs.Answers as Arcs
+use Rattle.arcs.specs.declared.ArcMade.{ArcMade}
+use Rattle.arcs.specs.declared.Sided.{Sided}
+use Rattle.arcs.specs.declared.Contained.{Contained}
+use Rattle.arcs.specs.declared.Met.{Met}
+use Rattle.arcs.specs.declared.ArcRelated.{ArcRelated}
+use Rattle.arcs.specs.Answers as Arcs
 use Rattle.header.specs.declared.Header.{Header}
 use Rattle.build.specs.declared.Built.{Built}
 use Rattle.build.specs.Build as Build
@@ -37,8 +37,8 @@ use Rattle.slicing.specs.Slicing as Slicing
 use Rattle.accepting.specs.Checking as Checking
 use Rattle.words.specs.Words.{Wrote}
 use Rattle.scenes.specs.Scenes.{sceneText}
-use Rattle.exports.specs.Arcs as Bytes
-use Rattle.exports.specs.Leaves as Leaves
+use Rattle.arc_exports.specs.Arcs as Bytes
+use Rattle.leaves.specs.Leaves as Leaves
 
 -- what satisfies the contract is one
 abbrev pub One : {A : Type 0} → (A → Type 0) → Type 0
@@ -78,7 +78,7 @@ pub record Definitions : Type 0 where
   pub cut : OneToOne toldCut
   pub related : OneToOne toldRelated
 
--- crate minor_arc, module checked
+-- crate arcs
 pub record OfArcs : Type 0 where
   pub new : (s e : Vec3) → One (λ (r : ArcMade). Arcs.toldMade r ≡ Arcs.newAnswer s e)
   pub opposite : (a : MinorArc) → One (λ (r : ArcMade). Arcs.toldMade r ≡ Arcs.oppositeAnswer a)

@@ -1,6 +1,6 @@
 use borrow.Author.Needs.{needs}
 use mathlib.Core.Path.{sym, _∙_}
-use Rattle.minor_arc.proofs.Missing.{missed-disjoint}
+use Rattle.arc_relations.proofs.Missing.{missed-disjoint}
 use Rattle.edges.specs.Edges.{edgeAt}
 use Rattle.edges.specs.Blocks.{candidateAt}
 use Rattle.pairs.proofs.Clearing.{second-alone}

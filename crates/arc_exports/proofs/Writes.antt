@@ -1,0 +1,88 @@
+-- What a call leaves: a refusal and the buffer as it was, or an answer and its bytes. Assumes nothing.
+use Prim.Native.Nat.{ℕ, zero, suc, _+_, _*_, _≤_, _<_}
+use mathlib.Core.Path.{_≡_, refl, sym, ap, _∙_}
+use mathlib.Core.Bool.{Bool, true, false}
+use mathlib.Core.List.{List, [], _∷_, _++_, append-assoc, append-nil}
+use native.Mathlib.Omega.{arith}
+use lib.ListN.{length, length-append}
+use lib.Seq.{sets}
+use lib.Dec.{eqb}
+use borrow.Author.Tests.{lt-ltb, le-ltb, eqb-true}
+use Rattle.laws.specs.Loop.{first}
+use Rattle.vec3.specs.declared.Vec3.{Vec3}
+use Rattle.wire.specs.Wire.{floatBytes, vecBytes}
+use Rattle.wire.proofs.Bytes.{three, eight}
+use Rattle.arcs.specs.Answers.{Told, refused, answer, judged, arcFault}
+use Rattle.arcs.proofs.Judged.{judged-hit, judged-none}
+use Rattle.frames.specs.Left.{Left, left, refusalOf}
+use Rattle.numbers.specs.Choice.{if_then_else_}
+use Rattle.arc_exports.specs.Arcs.{arcAt, lengthFault, arcJudged, nextJudged, endsJudged, numberOf, valueBytes, leave}
+
+-- ---- the values written one after the other
+width : (v : Vec3) → length (vecBytes v) ≡ 24
+width v = simp (length-append, eight)
+
+pub one-written : {x : List ℕ} (out : List ℕ) (v : Vec3) → x ≡ sets out 0 (vecBytes v) → x ≡ sets out 0 (valueBytes (v ∷ []))
+one-written out v e = rw append-nil e
+
+pub three-written : {x y z : List ℕ} (out : List ℕ) (a b c : Vec3) → x ≡ sets out 0 (vecBytes a) → y ≡ sets x 24 (vecBytes b) → z ≡ sets y 48 (vecBytes c) → z ≡ sets out 0 (valueBytes (a ∷ b ∷ c ∷ []))
+three-written out a b c p q r = rw (append-nil, ← append-assoc (vecBytes a) (vecBytes b) (vecBytes c)) (three out (vecBytes a) (vecBytes b) (vecBytes c) 0 24 48 p q r (width a) (width b) (omega arith))
+
+-- ---- room, or refusal 5
+module _ (n : ℕ) (vs : List Vec3) (out : List ℕ) where
+  pub no-room : {r : ℕ} → length out < 24 * length vs → r ≡ refusalOf 5 → left r out ≡ leave (answer n vs) out
+  unfolding leave
+  no-room h e = rw (lt-ltb _ _ h, e)
+
+  pub room : {z : List ℕ} → 24 * length vs ≤ length out → z ≡ sets out 0 (valueBytes vs) → left n z ≡ leave (answer n vs) out
+  unfolding leave
+  room h e = rw (le-ltb _ _ h, e)
+
+-- ---- a refusal comes before an answer
+module _ {f g : ℕ} (t : Told) (e : f ≡ g) where
+  pub gone : {r : ℕ} (out : List ℕ) → (f ≡ 0 → ⊥) → r ≡ refusalOf f → left r out ≡ leave (judged g t) out
+  unfolding leave
+  gone out h q = rw (← judged-hit t e h, q)
+
+  pub went-on : {x : Left ℕ} {u : Told} (out : List ℕ) → f ≡ 0 → u ≡ t → x ≡ leave u out → x ≡ leave (judged g t) out
+  went-on out z p q = rw (← judged-none t e z p) q
+
+  pub gone-number : {r : ℕ} → (f ≡ 0 → ⊥) → r ≡ refusalOf f → r ≡ numberOf (judged g t)
+  gone-number h q = rw (← judged-hit t e h) q
+
+  pub went-on-number : {x : ℕ} {u : Told} → f ≡ 0 → u ≡ t → x ≡ numberOf u → x ≡ numberOf (judged g t)
+  went-on-number z p q = rw (← judged-none t e z p) q
+
+-- ---- no refusal: each length is right
+pub zero-left : (a b : ℕ) → first a b ≡ 0 → a ≡ 0
+zero-left zero b e = refl
+zero-left (suc a) b e = e
+
+pub zero-right : (a b : ℕ) → first a b ≡ 0 → b ≡ 0
+zero-right zero b e = e
+zero-right (suc a) b e = absurd (omega (arith, e))
+
+right-length : (s : List ℕ) (n : ℕ) → lengthFault s n ≡ 0 → length s ≡ n
+unfolding lengthFault
+right-length s n h = at (eqb (length s) n) (length s) refl h
+  where
+    at : (b : Bool) (k : ℕ) → eqb k n ≡ b → _≡_ {A = ℕ} (if b then 0 else 1) 0 → k ≡ n
+    at true k e h = eqb-true k n e
+    at false k e h = absurd (omega (arith, h))
+
+module _ {f : ℕ} (a p : List ℕ) (n : ℕ) (e : f ≡ nextJudged a p n) (z : f ≡ 0) where
+  none : nextJudged a p n ≡ 0
+  none = sym e ∙ z
+
+  pub arc-long : 72 ≤ length a
+  arc-long = omega (arith, right-length a 72 (zero-left (lengthFault a 72) (arcFault (arcAt a)) (zero-left (arcJudged a) (lengthFault p n) none)))
+
+  pub next-long : n ≤ length p
+  next-long = omega (arith, right-length p n (zero-right (arcJudged a) (lengthFault p n) none))
+
+module _ {f : ℕ} (s e : List ℕ) (h : f ≡ endsJudged s e) (z : f ≡ 0) where
+  pub start-long : 24 ≤ length s
+  start-long = omega (arith, right-length s 24 (zero-left (lengthFault s 24) (lengthFault e 24) (sym h ∙ z)))
+
+  pub end-long : 24 ≤ length e
+  end-long = omega (arith, right-length e 24 (zero-right (lengthFault s 24) (lengthFault e 24) (sym h ∙ z)))

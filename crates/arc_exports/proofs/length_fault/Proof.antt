@@ -1,0 +1,12 @@
+use Rattle.arc_exports.specs.Arcs.{lengthFault}
+use borrow.Author.Tests.{eq-eqb, ne-eqb}
+use Rattle.arc_exports.proofs.length_fault.Statement.{statement}
+use Rattle.arc_exports.proofs.length_fault.Tie as tie
+
+pub length-fault-spec : {M : Type 1} → statement M
+unfolding lengthFault
+length-fault-spec =
+    tie.close
+    (tie.spec
+    (λ c. simp (eq-eqb _ _ (c .if1 .taken)))
+    (λ c. simp (ne-eqb _ _ (c .if1 .left))))

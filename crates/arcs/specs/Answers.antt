@@ -1,0 +1,140 @@
+-- What the six functions on arcs answer. Document 01: "Any answer that is an enum has a definition. The definition gives this paper's number and values for
+-- each of the enum's cases, and the promises use it." Definitions only.
+use Prim.Native.Nat.{ℕ, zero, suc}
+use mathlib.Core.Bool.{Bool, true, false}
+use mathlib.Core.List.{List, [], _∷_}
+use Rattle.laws.specs.Loop.{first}
+use Rattle.vec3.specs.declared.Vec3.{Vec3}
+use Rattle.vec3.specs.declared.Point.{Point}
+use Rattle.vec3.specs.declared.Point.the-variants.{Absent, At}
+use Rattle.vec3.specs.Vec.{cleared}
+use Rattle.base.specs.declared.Side.{Side}
+use Rattle.base.specs.declared.Side.the-variants.{Left, Right, Collinear}
+use Rattle.judge.specs.Judge.{faultOf, vectorFault}
+use Rattle.minor_arc.specs.declared.MinorArc.{MinorArc}
+use Rattle.arc_relations.specs.declared.MinorArcRelation.{MinorArcRelation}
+use Rattle.arc_relations.specs.declared.MinorArcRelation.the-variants.{Disjoint, Intersecting, Touching, Overlapping}
+use Rattle.arcs.specs.declared.ArcMade.{ArcMade}
+use Rattle.arcs.specs.declared.ArcMade.the-variants as Made
+use Rattle.arcs.specs.declared.Sided.{Sided}
+use Rattle.arcs.specs.declared.Sided.the-variants as Sided
+use Rattle.arcs.specs.declared.Contained.{Contained}
+use Rattle.arcs.specs.declared.Contained.the-variants as Contained
+use Rattle.arcs.specs.declared.Met.{Met}
+use Rattle.arcs.specs.declared.Met.the-variants as Met
+use Rattle.arcs.specs.declared.ArcRelated.{ArcRelated}
+use Rattle.arcs.specs.declared.ArcRelated.the-variants as Related
+use Rattle.minor_arc.specs.Arcs.{arcOf, reversed, arcSide, onArc, meetingOf, meetingPoint}
+use Rattle.arc_relations.specs.Relations.{relationOf}
+
+-- a refusal's number alone, or an answer's number and the vectors that come with it
+pub data Told : Type 0 where
+  refused : ℕ → Told
+  answer : ℕ → List Vec3 → Told
+
+abbrev pub vectors : MinorArc → List Vec3
+vectors a = a .start ∷ a .end ∷ a .normal ∷ []
+
+-- ---- the paper's number and values for each case
+abbrev pub toldMade : ArcMade → Told
+toldMade (Made.Refused n) = refused n
+toldMade (Made.Arc a) = answer 0 (vectors a)
+
+abbrev pub toldSided : Sided → Told
+toldSided (Sided.Refused n) = refused n
+toldSided Sided.Collinear = answer 0 []
+toldSided Sided.Left = answer 1 []
+toldSided Sided.Right = answer 2 []
+
+abbrev pub toldContained : Contained → Told
+toldContained (Contained.Refused n) = refused n
+toldContained Contained.No = answer 0 []
+toldContained Contained.Yes = answer 1 []
+
+abbrev pub toldMet : Met → Told
+toldMet (Met.Refused n) = refused n
+toldMet Met.Nowhere = answer 0 []
+toldMet (Met.At p) = answer 1 (p ∷ [])
+
+abbrev pub toldRelated : ArcRelated → Told
+toldRelated (Related.Refused n) = refused n
+toldRelated Related.Disjoint = answer 0 []
+toldRelated (Related.Intersecting p) = answer 1 (p ∷ [])
+toldRelated (Related.Touching p) = answer 2 (p ∷ [])
+toldRelated (Related.Overlapping a) = answer 3 (vectors a)
+
+-- ---- what is handed in. "Every position or normal handed in is made free of -0.0"
+abbrev pub clearedArc : MinorArc → MinorArc
+clearedArc a = record { start = cleared (a .start); end = cleared (a .end); normal = cleared (a .normal) }
+
+-- "an arc's positions go one by one, 3 before 4, all ahead of its normals"; "refusals of the first loop or arc all come before those of the second, both
+-- before query positions"
+unfoldable pub arcFault : MinorArc → ℕ
+arcFault a = first (first (faultOf (a .start)) (faultOf (a .end))) (vectorFault (a .normal) 0)
+
+abbrev pub queryFault : MinorArc → Vec3 → ℕ
+queryFault a p = first (arcFault a) (faultOf p)
+
+abbrev pub pairFault : MinorArc → MinorArc → ℕ
+pairFault a b = first (arcFault a) (arcFault b)
+
+-- ---- the answers: the refusal, or what there is to tell
+abbrev pub judged : ℕ → Told → Told
+judged zero t = t
+judged (suc k) t = refused (suc k)
+
+abbrev pub sideTold : Side → Told
+sideTold Collinear = answer 0 []
+sideTold Left = answer 1 []
+sideTold Right = answer 2 []
+
+abbrev pub boolTold : Bool → Told
+boolTold false = answer 0 []
+boolTold true = answer 1 []
+
+abbrev pub pointTold : Point → Told
+pointTold Absent = answer 0 []
+pointTold (At p) = answer 1 (p ∷ [])
+
+abbrev pub relationTold : MinorArcRelation → Told
+relationTold Disjoint = answer 0 []
+relationTold (Intersecting p) = answer 1 (p ∷ [])
+relationTold (Touching p) = answer 2 (p ∷ [])
+relationTold (Overlapping a) = answer 3 (vectors a)
+
+unfoldable pub newTold : Vec3 → Vec3 → Told
+newTold s e = judged (first (faultOf s) (faultOf e)) (answer 0 (vectors (arcOf s e)))
+
+unfoldable pub oppositeTold : MinorArc → Told
+oppositeTold a = judged (arcFault a) (answer 0 (vectors (reversed a)))
+
+unfoldable pub sideOfTold : MinorArc → Vec3 → Told
+sideOfTold a p = judged (queryFault a p) (sideTold (arcSide a p))
+
+unfoldable pub containsTold : MinorArc → Vec3 → Told
+containsTold a p = judged (queryFault a p) (boolTold (onArc a p))
+
+unfoldable pub intersectionTold : MinorArc → MinorArc → Told
+intersectionTold a b = judged (pairFault a b) (pointTold (meetingPoint (meetingOf a b)))
+
+unfoldable pub relateTold : MinorArc → MinorArc → Told
+relateTold a b = judged (pairFault a b) (relationTold (relationOf a b))
+
+-- of whatever is handed in
+abbrev pub newAnswer : Vec3 → Vec3 → Told
+newAnswer s e = newTold (cleared s) (cleared e)
+
+abbrev pub oppositeAnswer : MinorArc → Told
+oppositeAnswer a = oppositeTold (clearedArc a)
+
+abbrev pub sideAnswer : MinorArc → Vec3 → Told
+sideAnswer a p = sideOfTold (clearedArc a) (cleared p)
+
+abbrev pub containsAnswer : MinorArc → Vec3 → Told
+containsAnswer a p = containsTold (clearedArc a) (cleared p)
+
+abbrev pub intersectionAnswer : MinorArc → MinorArc → Told
+intersectionAnswer a b = intersectionTold (clearedArc a) (clearedArc b)
+
+abbrev pub relateAnswer : MinorArc → MinorArc → Told
+relateAnswer a b = relateTold (clearedArc a) (clearedArc b)

@@ -1,9 +1,0 @@
-use borrow.Author.Needs.{needs}
-use Rattle.minor_arc.proofs.MinorArc.relate.Statement.{statement}
-use Rattle.minor_arc.proofs.MinorArc.relate.Tie as tie
-
-pub relate-spec : {M : Type 1} → statement M
-relate-spec =
-    tie.close
-    (tie.spec (λ c κs. tt) (λ c κs. search needs)
-    (λ c. search needs))

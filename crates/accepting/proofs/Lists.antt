@@ -19,9 +19,10 @@ use Rattle.checker.specs.Accepted.{accepted}
 use Rattle.triangles.specs.Triangles.{acceptsAnswer}
 use Rattle.frames.specs.Left.{refusalOf}
 use Rattle.frames.specs.Frames.{countAt, headerAt, floatsAt, positionsAt, classesAt, numberBlock, numbersAt, frameFault, manyFault, copyFault}
+use Rattle.frames.proofs.Lays.{floats-length}
 use Rattle.frames.proofs.Faults.{frame-size, Copyable, copyable}
 use Rattle.asking.specs.Asking.{numberOf}
-use Rattle.asking.proofs.Asks.{floats-length, classes-length, check-large, is-large, large-is}
+use Rattle.asking.proofs.Asks.{classes-length, check-large, is-large, large-is}
 use Rattle.asking.proofs.Calls.{gone-number}
 use Rattle.accepting.specs.Checking.{sixesFault, acceptsTold, listFault, numbersFor}
 

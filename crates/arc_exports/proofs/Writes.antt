@@ -4,14 +4,15 @@ use mathlib.Core.Path.{_≡_, refl, sym, ap, _∙_}
 use mathlib.Core.Bool.{Bool, true, false}
 use mathlib.Core.List.{List, [], _∷_, _++_, append-assoc, append-nil}
 use native.Mathlib.Omega.{arith}
-use lib.ListN.{length, length-append}
+use lib.ListN.{length}
 use lib.Seq.{sets}
 use lib.Dec.{eqb}
 use borrow.Author.Tests.{lt-ltb, le-ltb, eqb-true}
 use Rattle.laws.specs.Loop.{first}
 use Rattle.vec3.specs.declared.Vec3.{Vec3}
 use Rattle.wire.specs.Wire.{floatBytes, vecBytes}
-use Rattle.wire.proofs.Bytes.{three, eight}
+use Rattle.wire.proofs.Bytes.{three}
+use Rattle.frames.proofs.Lays.{width}
 use Rattle.arcs.specs.Answers.{Told, refused, answer, judged, arcFault}
 use Rattle.arcs.proofs.Judged.{judged-hit, judged-none}
 use Rattle.frames.specs.Left.{Left, left, refusalOf}
@@ -19,9 +20,6 @@ use Rattle.numbers.specs.Choice.{if_then_else_}
 use Rattle.arc_exports.specs.Arcs.{arcAt, lengthFault, arcJudged, nextJudged, endsJudged, numberOf, valueBytes, leave}
 
 -- ---- the values written one after the other
-width : (v : Vec3) → length (vecBytes v) ≡ 24
-width v = simp (length-append, eight)
-
 pub one-written : {x : List ℕ} (out : List ℕ) (v : Vec3) → x ≡ sets out 0 (vecBytes v) → x ≡ sets out 0 (valueBytes (v ∷ []))
 one-written out v e = rw append-nil e
 

@@ -10,7 +10,6 @@ use lib.Ieee.{Float}
 use borrow.Author.Tests.{eq-eqb, ne-eqb, lt-ltb, le-ltb, le-leb, ltb-true}
 use Rattle.laws.specs.Loop.{first}
 use Rattle.laws.proofs.Firsts.{first-zero}
-use Rattle.laws.proofs.Copies.{length-flat}
 use Rattle.laws.proofs.Rests.{rest}
 use Rattle.vec3.specs.declared.Vec3.{Vec3}
 use Rattle.header.specs.declared.State.{State}
@@ -21,17 +20,14 @@ use Rattle.ask.specs.Answers.{Told, refused, answer, judged}
 use Rattle.ask.specs.Questions.{queryFault, placeAnswer, vertexAnswer, onEdgeAnswer, convexAnswer, simpleAnswer}
 use Rattle.wire.specs.Wire.{vecOf}
 use Rattle.frames.specs.Left.{refusalOf}
-use Rattle.frames.specs.Frames.{countAt, stateByte, stateOf, headerAt, floatBlock, floatsAt, positionsAt, normalsAt, classesAt, sizeFault, headerFault, frameFault, largeFault, manyFault, copyFault}
+use Rattle.frames.specs.Frames.{countAt, stateByte, stateOf, headerAt, floatsAt, positionsAt, normalsAt, classesAt, sizeFault, headerFault, frameFault, largeFault, manyFault, copyFault}
+use Rattle.frames.proofs.Lays.{floats-length}
 use Rattle.frames.proofs.Faults.{wrong-size, right-size, frame-size, Copyable, copyable}
 use Rattle.asking.specs.declared.Question.{Question}
 use Rattle.asking.specs.declared.Question.the-variants.{Place, Vertex, OnEdge, Convex, Simple}
 use Rattle.asking.specs.Asking.{numberOf, toldAt, needsPosition, lengthFault, toldBy, askTold, Arrays}
 
 -- ---- sizes of a loop's parts
-pub floats-length : (s : List ℕ) (at n : ℕ) → length (floatsAt s at n) ≡ n
-unfolding floatsAt
-floats-length s at n = length-flat (floatBlock s at) (λ j. refl) n 0
-
 pub classes-length : (s : List ℕ) → length s ≡ 88 + 49 * countAt s → length (classesAt s) ≡ countAt s
 classes-length s h = rw length-drop (omega arith)
 

@@ -22,7 +22,7 @@ use Rattle.vec3.specs.Vec.{posAt, coords, vec}
 use Rattle.judge.specs.Judge.{faultOf, positionFault, positionsFault}
 use Rattle.minor_arc.proofs.Clears.{clear-once}
 use Rattle.ring.specs.Ring.{cornerSource, cornerAt, classBy, classAt, ringOf, classesOf}
-use Rattle.turning.proofs.Edges.{size, raw-written}
+use Rattle.vec3.proofs.Arrays.{size, raw-written}
 use Rattle.header.specs.Loops.{threesOf, shapeFault, classFault, classesFault, ringFault, cutFault}
 use Rattle.build.specs.Build.{listFault, openedCount, ringHeader}
 use Rattle.build.proofs.Rooms.{Listed, list-fine}

@@ -14,7 +14,7 @@ use Rattle.cap.specs.declared.Cap.{Cap}
 use Rattle.cap.specs.Caps.{boundingCap}
 use Rattle.turning.specs.Turning.{turnSum, edgeNormals}
 use Rattle.ring.specs.Ring.{cornerAt, classAt, reversal, ringOf, normalsOf, classesOf, allBoth}
-use Rattle.turning.proofs.Edges.{size}
+use Rattle.vec3.proofs.Arrays.{size}
 use Rattle.cutting.specs.declared.Insides.{Insides}
 use Rattle.cutting.specs.Cutting.{Ring}
 use Rattle.header.specs.declared.Header.{Header}

@@ -13,15 +13,15 @@ use borrow.Author.Tests.{lt-ltb, le-ltb, ltb-true, ltb-false, eq-eqb, ne-eqb}
 use Rattle.laws.specs.Loop.{first}
 use Rattle.laws.proofs.Copies.{length-flat}
 use Rattle.ring.specs.Ring.{cornerAt, normalAt, classAt, ringOf, normalsOf, classesOf, reversal, allBoth}
-use Rattle.turning.proofs.Edges.{size}
+use Rattle.vec3.proofs.Arrays.{size}
 use Rattle.header.specs.declared.Header.{Header}
 use Rattle.build.specs.Build as B
 use Rattle.build.proofs.Rooms.{list-fine}
 use Rattle.build.proofs.Rooms as R
 use Rattle.frames.specs.Left.{Left, left, refusalOf}
-use Rattle.frames.specs.Frames.{floatBlock, floatsAt, floatsBytes, headerBytes}
+use Rattle.frames.specs.Frames.{floatsAt, floatsBytes, headerBytes}
 use Rattle.frames.proofs.Faults.{by-left}
-use Rattle.frames.proofs.Lays.{two, floats-width, header-width}
+use Rattle.frames.proofs.Lays.{two, floats-width, header-width, floats-length}
 use Rattle.building.specs.Building.{madeIf, madeOf, loopBytes, needFault, builtLeft, buildLeft, listAt, roomOf, Roomy, Fitting, front, loopLeft, outLeft, headerLeft, floatsLeft, shortHeader, Counted}
 use Rattle.building.proofs.Rooms.{Behind, behind, need-none, need-header, same-refusal, fits, fine, no-need, header-need}
 
@@ -166,10 +166,6 @@ module _ (h : Header) (ps ns : List Float) (cs out : List ℕ) (f : Fitting h (l
 pub unread : (s : List ℕ) (out : List ℕ) {r : ℕ} → (length s % 24 ≡ 0 → ⊥) → r ≡ refusalOf 1 → left r out ≡ buildLeft s out
 unfolding buildLeft
 unread s out h e = rw (ne-eqb _ _ h, e)
-
-floats-length : (s : List ℕ) (at n : ℕ) → length (floatsAt s at n) ≡ n
-unfolding floatsAt
-floats-length s at n = length-flat (floatBlock s at) (λ j. refl) n 0
 
 module _ (s out : List ℕ) (h : length s % 24 ≡ 0) where
   pub in-bytes : {x : Left ℕ} → x ≡ builtLeft (listAt s) out → x ≡ buildLeft s out

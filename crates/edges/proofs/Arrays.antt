@@ -7,27 +7,11 @@ use native.Mathlib.Omega.{arith}
 use lib.ListN.{length, getD}
 use lib.Ieee.{Float, nan}
 use Rattle.laws.specs.Loop.{flat}
-use Rattle.laws.proofs.Blocks.{getD-flat, length-blocks}
 use Rattle.laws.proofs.Parts.{flat-same}
 use Rattle.vec3.specs.declared.Vec3.{Vec3}
 use Rattle.vec3.specs.Vec.{unitVec, rawAt, coords}
+use Rattle.vec3.proofs.Arrays.{size, raw-written}
 use Rattle.edges.specs.Blocks.{productAt, candidateAt, products, candidates, unitAt, units}
-
--- of any vectors, written one after the other
-module _ (f : ℕ → Vec3) (n : ℕ) where
-  abbrev written : List Float
-  written = flat (λ i. coords (f i)) n 0
-
-  size : length written ≡ 3 * n
-  size = length-blocks nan 3 (λ i. coords (f i)) (λ j. refl) n 0
-
-  at : (i r : ℕ) → i < n → r < 3 → getD written (3 * i + r) nan ≡ getD (coords (f i)) r nan
-  at i r h g = getD-flat nan 3 (λ i. coords (f i)) (λ j. refl) n 0 i r h g ∙ ap (λ (j : ℕ). getD (coords (f j)) r nan) (zero-add i)
-
-  raw-written : (i : ℕ) → i < n → rawAt written i ≡ f i
-  raw-written i h =
-      let e : getD written (3 * i) nan ≡ f i .x = rw add-zero at (at i 0 h (omega arith)) in
-      rw (e, at i 1 h (omega arith), at i 2 h (omega arith))
 
 module _ (u : Vec3) (ns : List Float) (from : ℕ) where
   pub products-size : (k : ℕ) → length (products u ns from k) ≡ 3 * k

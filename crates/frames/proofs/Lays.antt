@@ -8,10 +8,10 @@ use native.Mathlib.Omega.{arith}
 use lib.ListN.{length, length-append}
 use lib.Seq.{sets, length-sets}
 use Rattle.laws.specs.Loop.{flat}
-use Rattle.laws.proofs.Copies.{one, copied}
+use Rattle.laws.proofs.Copies.{one, copied, length-flat}
 use lib.Ieee.{Float}
 use Rattle.header.specs.declared.Header.{Header}
-use Rattle.frames.specs.Frames.{floatBytesAt, floatsBytes, headerBytes}
+use Rattle.frames.specs.Frames.{floatBlock, floatsAt, floatBytesAt, floatsBytes, headerBytes}
 use Rattle.vec3.specs.declared.Vec3.{Vec3}
 use Rattle.wire.specs.Wire.{vecBytes}
 use Rattle.wire.proofs.Bytes.{sets-sets, eight}
@@ -68,3 +68,8 @@ floats-width l = span (floatBytesAt l) (λ j. eight _) (length l) 0
 pub header-width : (h : Header) → length (headerBytes h) ≡ 88
 unfolding headerBytes
 header-width h = simp (length-append, eight)
+
+-- floats that were read
+pub floats-length : (s : List ℕ) (at n : ℕ) → length (floatsAt s at n) ≡ n
+unfolding floatsAt
+floats-length s at n = length-flat (floatBlock s at) (λ j. refl) n 0

@@ -2,17 +2,17 @@
 use mathlib.Core.Path.{_≡_, refl, sym, ap, _∙_, subst}
 use mathlib.Core.Bool.{Bool, true, false, not, cond, _&&_}
 use Prim.Native.Nat.{ℕ, zero, suc, _+_, _-_, _*_, _/_, _%_, _^_, _≤_, _<_}
-use native.Mathlib.Nat.{zero-mul, mul-one, one-mul, mul-assoc, mul-right-comm, mul-div-cancel, mul-pos, add-comm, add-sub-of-le, lt-of-not-le, not-le-of-lt, zero-lt-suc, le-of-suc-le-suc}
+use native.Mathlib.Nat.{zero-mul, mul-one, one-mul, mul-assoc, mul-right-comm, mul-div-cancel, mul-pos, add-comm, add-sub-of-le, zero-lt-suc}
 use native.Mathlib.Omega.{arith}
 use lib.IntN.{ℤ, pos, negsuc}
 use lib.Dec.{T, ltb, leb, eqb, ltb→lt, leb→le, lt→ltb}
-use lib.Pow.{pow-add, pow-pos, pow-lt}
+use lib.Pow.{pow-add, pow-pos}
 use lib.Ieee.{Float, nan, inf, fin, binary64, ofBits, up, down, fits, round, neg, add, sum}
 use lib.Ieee.Exact.{HasValue, round-exact}
 use lib.Ieee.Fits.{down-pos, up-pos, round-fits, and-l, and-r}
 use lib.Ieee.Nearest.{div-same}
 use Rattle.root.specs.Root.{inUnits}
-use Rattle.root.proofs.Units.{same-units, shape}
+use Rattle.root.proofs.Units.{same-units, shape, exponent-le}
 use Rattle.numbers.proofs.Rounds.{is-true}
 use Rattle.numbers.specs.F64 as F
 use Rattle.minor_arc.specs.declared.MinorArc.{MinorArc}
@@ -37,9 +37,6 @@ same-value (fin t n d) s m e p q v =
     let h : n * up d * 2 ^ 1074 * down e ≡ m * up e * 2 ^ 1074 * down d = mul-right-comm (n * up d) (2 ^ 1074) (down e) ∙ ap (λ (z : ℕ). z * 2 ^ 1074) (v .1) ∙ mul-right-comm (m * up e) (down d) (2 ^ 1074) in
     let u = div-same (n * up d * 2 ^ 1074) (down d) (m * up e * 2 ^ 1074) (down e) (down-pos d) (down-pos e) h in
     ap (λ (b : Bool). fin b n d) (v .0) ∙ signs s (same-units n m d e (fits-either t false n d p) (fits-either s false m e q) u)
-
-exponent-le : (a b : ℕ) → 2 ^ a ≤ 2 ^ b → a ≤ b
-exponent-le a b h = le-of-suc-le-suc (lt-of-not-le (λ (g : suc b ≤ a). not-le-of-lt (pow-lt g) h))
 
 in-units : (m : ℕ) (e : ℤ) → down e ≤ 2 ^ 1074 → (c : ℕ) × (m * up e * 2 ^ 1074 ≡ m * 2 ^ c * down e)
 in-units m (pos k) h = (k + 1074, mul-assoc m (2 ^ k) (2 ^ 1074) ∙ ap (λ (z : ℕ). m * z) (sym (pow-add 2 k 1074)) ∙ sym (mul-one (m * 2 ^ (k + 1074))))

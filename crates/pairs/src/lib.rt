@@ -40,7 +40,7 @@ fn grade(r: MinorArcRelation) -> Contact
     }
 }
 
-fn is_crossed(k: Contact) -> bool
+pub fn is_crossed(k: Contact) -> bool
     ensures { λ r. ⌜ r ≡ C.isCrossed k ⌝ }
 {
     match k {
@@ -50,7 +50,7 @@ fn is_crossed(k: Contact) -> bool
     }
 }
 
-fn is_touched(k: Contact) -> bool
+pub fn is_touched(k: Contact) -> bool
     ensures { λ r. ⌜ r ≡ C.isTouched k ⌝ }
 {
     match k {

@@ -2,25 +2,22 @@
 use Prim.Native.Nat.{ℕ, zero, suc, _+_, _-_, _*_, _/_, _%_, _^_, _≤_, _<_}
 use mathlib.Core.Path.{_≡_, refl, sym, ap, _∙_}
 use mathlib.Core.Bool.{Bool, true, false, not, _&&_, false≢true}
-use native.Mathlib.Nat.{mul-one, one-mul, sub-zero, div-one, mul-assoc, mul-div-cancel, add-comm, add-sub-of-le, mul-pos, zero-lt-suc, lt-of-not-le, not-le-of-lt, le-of-suc-le-suc}
+use native.Mathlib.Nat.{mul-one, one-mul, sub-zero, div-one, mul-assoc, mul-div-cancel, add-comm, add-sub-of-le, mul-pos, zero-lt-suc, lt-of-not-le}
 use native.Mathlib.Omega.{arith}
 use borrow.Author.Tests.{lt-ltb, le-ltb}
 use lib.IntN.{ℤ, pos, negsuc}
 use lib.Dec.{T, ltb, leb, eqb, leb→le, ltb→lt}
-use lib.Pow.{pow-add, pow-pos, pow-lt}
+use lib.Pow.{pow-add, pow-pos}
 use lib.Ieee.{Float, nan, inf, fin, binary64, up, down, round, sum, neg, add, sub, lt, le, eq, fits, ofBits}
 use lib.Ieee.Fits.{up-pos, down-pos, and-l, and-r}
 use lib.Ieee.Exact.{HasValue, round-exact}
 use lib.Ieee.Order.{le-of-values}
 use lib.Ieee.Positive.{num, den, den-pos, positive-of-value, own-value, values-of-le}
-use Rattle.root.proofs.Units.{shape}
+use Rattle.root.proofs.Units.{shape, exponent-le}
 use Rattle.numbers.specs.F64 as F
 use Rattle.numbers.specs.Near.{abs, near}
 
 -- ---- a value that fits is rounded to itself
-
-exponent-le : (a b : ℕ) → 2 ^ a ≤ 2 ^ b → a ≤ b
-exponent-le a b h = le-of-suc-le-suc (lt-of-not-le (λ (g : suc b ≤ a). not-le-of-lt (pow-lt g) h))
 
 -- in units of 2^-1074 it is a whole number
 whole : (m : ℕ) (e : ℤ) (l : ℕ) → down e ≤ 2 ^ l → m * up e * 2 ^ l / down e * down e ≡ m * up e * 2 ^ l

@@ -20,11 +20,11 @@ use Rattle.cutting.specs.declared.Insides.the-variants.{Absent, Two}
 use Rattle.judge.specs.Judge.{finiteVec, withinRange, vectorFault, faultOf, positionFault, normalFault}
 use Rattle.header.specs.declared.Header.{Header}
 use Rattle.header.specs.Loops.{countFits, threesOf, shapeFault, classFault, classesFault, ringFault, capFault, insidesFault, vectorsFault, loopFault}
-use Rattle.pairs.specs.Contacts.{contactOf}
+use Rattle.pairs.specs.Contacts.{isCrossed, contactOf}
 use Rattle.ask.specs.Answers.{Told, refused, answer, judged}
 use Rattle.ask.specs.Questions.{fullState, pairFault, equivalentLoops}
 use Rattle.ask.specs.Places.{clearedCap}
-use Rattle.relate.specs.Relations.{emptyState, liesIn, byContainment, isCrossed, isTouched, edgesIf, byEdges, equalIf, disjointIf, byCaps, fullIf, byStates, relateAnswer}
+use Rattle.relate.specs.Relations.{emptyState, liesIn, byContainment, edgesIf, byEdges, equalIf, disjointIf, byCaps, fullIf, byStates, relateAnswer}
 
 -- ---- no loop is refused by a number above 6
 first-most : (a b : ℕ) {m : ℕ} → a ≤ m → b ≤ m → first a b ≤ m

@@ -10,10 +10,9 @@ use Rattle.header.specs.declared.State.{State}
 use Rattle.header.specs.declared.State.the-variants.{Empty, Full, Ring}
 use Rattle.header.specs.declared.Header.{Header}
 use Rattle.pairs.specs.declared.Contact.{Contact}
-use Rattle.pairs.specs.declared.Contact.the-variants.{Apart, Touched, Crossed}
 use Rattle.pairs.specs.declared.Probe.{Probe}
 use Rattle.pairs.specs.declared.Probe.the-variants.{Nowhere, Corner, Middle}
-use Rattle.pairs.specs.Contacts.{contactOf}
+use Rattle.pairs.specs.Contacts.{isCrossed, isTouched, contactOf}
 use Rattle.pairs.specs.Probes.{probeOf, askedMidpoint}
 use Rattle.ask.specs.Answers.{Told, refused, answer, judged}
 use Rattle.ask.specs.Places.{clearedCap, placeOf}
@@ -72,16 +71,6 @@ byContainment touched true false = answer 4
 byContainment touched false true = answer 3
 byContainment true false false = answer 1
 byContainment false false false = answer 0
-
-abbrev pub isCrossed : Contact → Bool
-isCrossed Apart = false
-isCrossed Touched = false
-isCrossed Crossed = true
-
-abbrev pub isTouched : Contact → Bool
-isTouched Apart = false
-isTouched Touched = true
-isTouched Crossed = false
 
 -- "the first crossing ends it, touching and overlapping are remembered"
 abbrev pub edgesIf : Bool → Told → Told

@@ -9,7 +9,6 @@ ghost use Rattle.relate.specs.Relations as Rel;
 use ask::Placed;
 use header::Header;
 use header::State;
-use pairs::Contact;
 use pairs::Probe;
 
 pub enum Related {
@@ -89,26 +88,6 @@ fn by_containment(touched: bool, within: bool, containing: bool) -> Related
     }
 }
 
-fn is_crossed(k: Contact) -> bool
-    ensures { λ r. ⌜ r ≡ Rel.isCrossed k ⌝ }
-{
-    match k {
-        Contact::Apart => false,
-        Contact::Touched => false,
-        Contact::Crossed => true,
-    }
-}
-
-fn is_touched(k: Contact) -> bool
-    ensures { λ r. ⌜ r ≡ Rel.isTouched k ⌝ }
-{
-    match k {
-        Contact::Apart => false,
-        Contact::Touched => true,
-        Contact::Crossed => false,
-    }
-}
-
 // Every edge with every edge, and then containment. Both searches run.
 fn by_edges(
     h: Header,
@@ -122,12 +101,12 @@ fn by_edges(
     ensures { λ r. ⌜ Rel.toldRelated r ≡ Rel.byEdges h (now (positions .entry)) (now (normals .entry)) o (now (others .entry)) (now (theirs .entry)) ⌝ }
 {
     let k = pairs::contact_of(positions, normals, h.count, others, theirs, o.count);
-    if is_crossed(k) {
+    if pairs::is_crossed(k) {
         return Related::Intersecting;
     }
     let within = lies_in(h, positions, o, others, theirs);
     let containing = lies_in(o, others, h, positions, normals);
-    by_containment(is_touched(k), within, containing)
+    by_containment(pairs::is_touched(k), within, containing)
 }
 
 // The caps first, then equivalence, then the edges: each cheaper than the next.

@@ -17,7 +17,7 @@ use Rattle.wire.specs.Wire.{u64Of}
 use Rattle.angle.specs.Angles.{weak}
 use Rattle.turning.specs.Turning.{turnSum}
 use Rattle.ring.specs.Ring.{reversal, cornerAt, ringOf, classesOf, allBoth}
-use Rattle.turning.proofs.Edges.{size}
+use Rattle.vec3.proofs.Arrays.{size}
 use Rattle.cutting.specs.Cutting as C
 use Rattle.header.specs.declared.Header.{Header}
 use Rattle.header.specs.Loops.{emptyHeader, fullHeader, threesOf, shapeFault, classesFault, ringFault, cutFault}

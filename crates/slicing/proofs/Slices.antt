@@ -24,9 +24,10 @@ use Rattle.icosahedron.specs.Table.{triples}
 use Rattle.triangles.specs.Triangles as T
 use Rattle.frames.specs.Left.{Left, left, refusalOf, leftBy}
 use Rattle.frames.specs.Frames.{countAt, stateByte, stateOf, headerAt, floatsAt, positionsAt, classesAt, headerFault, frameFault, largeFault, manyFault, copyFault}
+use Rattle.frames.proofs.Lays.{floats-length}
 use Rattle.frames.proofs.Faults.{frame-size, by-left}
 use Rattle.asking.specs.Asking.{numberOf}
-use Rattle.asking.proofs.Asks.{floats-length, classes-length, cut-large, is-large, large-is, copies}
+use Rattle.asking.proofs.Asks.{classes-length, cut-large, is-large, large-is, copies}
 use Rattle.slicing.specs.Slicing.{triplesOf, toldLeft, outLeft, blank, cutLeft, roomFault, partsLeft, trianglesLeft, numbersLeft, floatsLeft, Small, Array}
 
 -- ---- a count of triangles is small

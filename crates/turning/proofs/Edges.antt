@@ -9,31 +9,15 @@ use lib.Seq.{sets, getD-set-other}
 use lib.Ieee.{Float, nan}
 use Rattle.angle.specs.Arctan.{acute}
 use Rattle.laws.specs.Loop.{flat}
-use Rattle.laws.proofs.Blocks.{getD-flat, length-blocks}
 use Rattle.vec3.specs.declared.Vec3.{Vec3}
 use Rattle.laws.proofs.Copies.{length-flat}
 use Rattle.laws.proofs.Parts.{flat-same}
 use Rattle.vec3.specs.Vec.{coords, rawAt, posAt, orthogonalTo}
+use Rattle.vec3.proofs.Arrays.{size, raw-written}
 use Rattle.arctangents.specs.Arctangents.{proportion, acutes, angleBy}
 use Rattle.arctangents.proofs.Between.{between-by}
 use Rattle.turning.specs.Turning.{edgeNormal, edgeNormals, turnAt}
 use Rattle.turning.specs.Blocks.{productAt, products, normalOf, sineAt, row, cosineAt, proportionAt, acuteAt}
-
--- of any vectors, written one after the other
-module _ (f : ℕ → Vec3) (n : ℕ) where
-  abbrev written : List Float
-  written = flat (λ i. coords (f i)) n 0
-
-  pub size : length written ≡ 3 * n
-  size = length-blocks nan 3 (λ i. coords (f i)) (λ j. refl) n 0
-
-  at : (i r : ℕ) → i < n → r < 3 → getD written (3 * i + r) nan ≡ getD (coords (f i)) r nan
-  at i r h g = getD-flat nan 3 (λ i. coords (f i)) (λ j. refl) n 0 i r h g ∙ ap (λ (j : ℕ). getD (coords (f j)) r nan) (zero-add i)
-
-  pub raw-written : (i : ℕ) → i < n → rawAt written i ≡ f i
-  raw-written i h =
-      let e : getD written (3 * i) nan ≡ f i .x = rw add-zero at (at i 0 h (omega arith)) in
-      rw (e, at i 1 h (omega arith), at i 2 h (omega arith))
 
 module _ (l : List Float) (n : ℕ) {edges : List Float} (e : edges ≡ edgeNormals l n) where
   pub edges-size : length edges ≡ 3 * n

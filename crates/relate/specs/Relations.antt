@@ -9,7 +9,6 @@ use Rattle.cap.specs.Caps.{meet}
 use Rattle.header.specs.declared.State.{State}
 use Rattle.header.specs.declared.State.the-variants.{Empty, Full, Ring}
 use Rattle.header.specs.declared.Header.{Header}
-use Rattle.pairs.specs.declared.Contact.{Contact}
 use Rattle.pairs.specs.declared.Probe.{Probe}
 use Rattle.pairs.specs.declared.Probe.the-variants.{Nowhere, Corner, Middle}
 use Rattle.pairs.specs.Contacts.{isCrossed, isTouched, contactOf}

@@ -9,6 +9,7 @@ use lib.Seq.{sets, getD-set-other}
 use lib.Ieee.{Float, nan}
 use Rattle.angle.specs.Arctan.{acute}
 use Rattle.laws.specs.Loop.{flat}
+use Rattle.laws.proofs.Blocks.{getD-flat}
 use Rattle.vec3.specs.declared.Vec3.{Vec3}
 use Rattle.laws.proofs.Copies.{length-flat}
 use Rattle.laws.proofs.Parts.{flat-same}

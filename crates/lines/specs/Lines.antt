@@ -39,3 +39,11 @@ lineText (Place number answer) = placeLine number answer
 lineText (Pair first second relation) = pairLine first second relation
 lineText (End records) = endLine records
 lineText (Refused number offset) = refusedLine number offset
+
+-- the most bytes that a line takes
+unfoldable pub roomOf : Line → ℕ
+roomOf (Area number h triangles) = 45
+roomOf (Place number answer) = 20
+roomOf (Pair first second relation) = 30
+roomOf (End records) = 10
+roomOf (Refused number offset) = 23

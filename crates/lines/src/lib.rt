@@ -107,7 +107,7 @@ fn put_refused(out: &mut [u8], at: usize, number: u8, offset: usize) -> usize
 pub fn put_line(out: &mut [u8], at: usize, line: Line) -> usize
     requires { ⌜ at + 45 ≤ length (now out) ⌝ }
     ensures { λ r. ⌜ Wrote (now (out .entry)) at (L.lineText line) (now (out .exit)) r ⌝ }
-    ensures { λ r. ⌜ r ≤ at + 45 ⌝ }
+    ensures { λ r. ⌜ r ≤ at + L.roomOf line ⌝ }
 {
     match line {
         Line::Area(number, h, triangles) => put_area(out, at, number, h, triangles),

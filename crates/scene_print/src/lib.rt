@@ -5,10 +5,10 @@ ghost use Rattle.scenes.specs.Scenes.{sceneText};
 use libc::STDOUT_FILENO;
 
 // Room for the longest text. Its `ensures` gives the length alone, so that no proof looks at so many zeros.
-fn room() -> [u8; 393261]
-    ensures { λ r. ⌜ 393261 ≡ length r ⌝ }
+fn room() -> [u8; 196989]
+    ensures { λ r. ⌜ 196989 ≡ length r ⌝ }
 {
-    [0; 393261]
+    [0; 196989]
 }
 
 // Prints the text of an input, and answers how long it is. No contract can say what a call of the C library wrote.

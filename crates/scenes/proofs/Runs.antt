@@ -10,7 +10,7 @@ use lib.Ieee.{Float}
 use borrow.Author.Tests.{lt-ltb, le-ltb}
 use Rattle.laws.proofs.Loops.{left}
 use Rattle.lines.specs.declared.Line.{Line}
-use Rattle.lines.specs.Lines.{lineText, refusedLine}
+use Rattle.lines.specs.Lines.{lineText, refusedLine, roomOf}
 use Rattle.words.specs.Words.{Wrote}
 use Rattle.words.proofs.Writes.{then}
 use Rattle.records.proofs.Sizes.{within}
@@ -18,7 +18,7 @@ use Rattle.notes.specs.declared.Notes.{Notes}
 use Rattle.steps.specs.declared.Outcome.{Outcome}
 use Rattle.steps.specs.declared.Outcome.the-variants as Outcome
 use Rattle.steps.specs.declared.Stepped.{Stepped}
-use Rattle.notes.specs.Noted.{Scene, Kept, view, Fresh}
+use Rattle.notes.specs.Noted.{Scene, Kept, areasOf, view, Fresh}
 use Rattle.steps.specs.Steps.{Step, wrote, step, outcomeStep, toldStep, Ready}
 use Rattle.scenes.specs.Scenes.{textBy, linesFrom, starting, linesOf, lineOf, goesOn, Running, blankFloats, blankCodes, sceneText}
 use Rattle.steps.proofs.Goods.{Onward, onward}
@@ -50,8 +50,8 @@ one-record s k w = refl
 -- ---- the loop's invariant: what is written from here on ends the whole text
 pub record Going (s out₀ : List ℕ) (ps₀ ns₀ : List Float) (cs₀ : List ℕ) (c : Notes) (written : ℕ) (ps ns : List Float) (cs out : List ℕ) : Type 0 where
   pub ready : Ready s c 0 ps ns cs
-  pub room : 393261 ≤ length out
-  pub bound : written ≤ 6 * c .at
+  pub room : 196989 ≤ length out
+  pub bound : written ≤ 3 * c .at + 21 * length (areasOf c)
   pub same-out : length out ≡ length out₀
   pub same-positions : length ps ≡ length ps₀
   pub same-normals : length ns ≡ length ns₀
@@ -102,10 +102,10 @@ module _ {s out₀ : List ℕ} {ps₀ ns₀ : List Float} {cs₀ : List ℕ} {c 
   ends p z = g .goes out′ next (rw (text ∙ text-stop (view (r .next) ps′ ns′ cs′) (view c ps ns cs) (linesFrom s (length s + 1 - suc (c .records))) (r .outcome) (sym p ∙ z)) (rw el at w))
 
   module _ {b : Bool} (p : b ≡ goesOn (r .outcome)) (z : b ≡ true) where
-    pub after : Onward s (view c ps ns cs) (view (r .next) ps′ ns′ cs′)
+    pub after : Onward s (lineOf (r .outcome) (c .records) (c .at)) (view c ps ns cs) (view (r .next) ps′ ns′ cs′)
     after = onward (g .ready .good) (sym e ∙ wrote-on (view (r .next) ps′ ns′ cs′) (r .outcome) (c .records) (c .at) (sym p ∙ z))
 
-    module _ (k : Kept (r .next)) (m : next ≤ written + 45) (q : length out′ ≡ length out) (qp : length ps′ ≡ length ps) (qn : length ns′ ≡ length ns) (qc : length cs′ ≡ length cs) where
+    module _ (k : Kept (r .next)) (m : next ≤ written + roomOf line) (q : length out′ ≡ length out) (qp : length ps′ ≡ length ps) (qn : length ns′ ≡ length ns) (qc : length cs′ ≡ length cs) where
       onto : (o : List ℕ) (d : ℕ) → Wrote out′ next (linesFrom s (length s + 1 - r .next .records) (view (r .next) ps′ ns′ cs′)) o d → Wrote out₀ 0 (linesOf s ps₀ ns₀ cs₀) o d
       onto o d h =
           let n : length s + 1 - r .next .records ≡ (length s + 1 - suc (c .records)) = omega (arith, after .one-more) in
@@ -124,7 +124,7 @@ module _ {s out₀ : List ℕ} {ps₀ ns₀ : List Float} {cs₀ : List ℕ} {c 
           whole = omega (arith, after .good .within);
         };
         room = rw q (g .room);
-        bound = omega (arith, m, g .bound, after .forth);
+        bound = omega (arith, rw el at m, g .bound, after .spare);
         same-out = q ∙ g .same-out;
         same-positions = qp ∙ g .same-positions;
         same-normals = qn ∙ g .same-normals;

@@ -62,8 +62,8 @@ goesOn (Outcome.Bad f) = false
 goesOn (Outcome.Refused k) = false
 goesOn (Outcome.Line line) = true
 
--- room for the longest text: 45 bytes for each eight, and the last line
+-- room for the longest text: three bytes for each byte read, 21 more for each of 16 areas, and the last line
 pub record Running (s : List ℕ) (positions normals classes out : ℕ) : Type 0 where
   pub small : length s ≤ 65536
   pub sized : Sized positions normals classes
-  pub room : 393261 ≤ out
+  pub room : 196989 ≤ out

@@ -40,7 +40,7 @@ fn run_in(
 ) -> usize
     requires { ⌜ Sc.Running (now s) (length (now positions)) (length (now normals)) (length (now classes)) (length (now out)) ⌝ }
     ensures { λ r. ⌜ Wrote (now (out .entry)) 0 (Sc.linesOf (now (s .entry)) (now (positions .entry)) (now (normals .entry)) (now (classes .entry))) (now (out .exit)) r ⌝ }
-    ensures { λ r. ⌜ r ≤ 393261 ⌝ }
+    ensures { λ r. ⌜ r ≤ 196989 ⌝ }
 {
     let mut c = notes::fresh();
     let mut written = 0;
@@ -55,12 +55,12 @@ fn run_in(
     }
 }
 
-// What the scene program prints for an input, written to `out`; answers how many bytes that is. 393,261 bytes are room for any scene:
-// a record of eight bytes or more prints a line of at most 45, so six bytes for each of 65,536 and the last line suffice.
+// What the scene program prints for an input, written to `out`; answers how many bytes that is. 196,989 bytes are room for any scene:
+// a line has at most three bytes for each byte of its record, an area's 21 more, of which there are 16; the last line has at most 45.
 pub fn run(s: &[u8], out: &mut [u8]) -> usize
-    requires { ⌜ 393261 ≤ length (now out) ⌝ }
+    requires { ⌜ 196989 ≤ length (now out) ⌝ }
     ensures { λ r. ⌜ Wrote (now (out .entry)) 0 (Sc.sceneText (now (s .entry))) (now (out .exit)) r ⌝ }
-    ensures { λ r. ⌜ r ≤ 393261 ⌝ }
+    ensures { λ r. ⌜ r ≤ 196989 ⌝ }
 {
     if 65536 < s.len() {
         return lines::put_line(out, 0, Line::Refused(10, 0));

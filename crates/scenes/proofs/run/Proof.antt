@@ -1,4 +1,6 @@
 use native.Mathlib.Omega.{arith}
+use Rattle.lines.specs.declared.Line.the-variants as Line
+use Rattle.lines.proofs.Rooms.{longest}
 use Rattle.scenes.proofs.Runs.{too-many, whole}
 use Rattle.scenes.specs.Scenes.{blankFloats, blankCodes}
 use borrow.Author.Needs.{needs}
@@ -11,6 +13,6 @@ run-spec =
     tie.close
     (tie.spec
     (λ c κs. search needs) (λ c. search needs)
-    (λ c. (too-many _ (c .before .before .before .before .if1 .taken) (c .before .before .put-line .ensures .0), omega (arith, c .before .before .put-line .ensures .1)))
+    (λ c. (too-many _ (c .before .before .before .before .if1 .taken) (c .before .before .put-line .ensures .0), omega (arith, c .before .before .put-line .ensures .1, longest (Line.Refused 10 0))))
     (λ c. search needs) (λ c. search needs) (λ c. search needs) (λ c κs. search needs) (λ c. search needs)
     (λ c. (whole _ (c .before .before .before .before .before .before .before .before .before .before .if1 .left) (c .before .before .before .before .before .run-in .ensures .0), c .before .before .before .before .before .run-in .ensures .1)))

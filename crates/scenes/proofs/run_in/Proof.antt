@@ -3,6 +3,7 @@ use native.Mathlib.Omega.{arith}
 use lib.ListN.{length}
 use borrow.Author.Needs.{needs}
 use borrow.Author.Tests.{not-true, not-false}
+use Rattle.lines.proofs.Rooms.{longest}
 use Rattle.scenes.proofs.Runs.{Going, begin, ends, after, on}
 use Rattle.scenes.proofs.run_in.Statement.{statement}
 use Rattle.scenes.proofs.run_in.Tie as tie
@@ -24,12 +25,12 @@ run-in-spec =
     (λ c κs. c .before .before .before .loop .inv .ready)
     (λ c κs. search needs)
     (λ c κs. let g = c .before .before .before .before .before .before .before .before .before .before .before .before .loop .inv in
-    omega (arith, g .bound, g .room, g .ready .good .within, g .ready .good .small))
+    omega (arith, g .bound, g .room, g .ready .good .within, g .ready .good .small, g .ready .good .few))
     (λ c κs. search needs)
     (λ c. search needs) (λ c. search needs) (λ c. search needs) (λ c. search needs)
     (λ c. let g = c .before .before .before .before .before .before .before .before .before .before .before .before .before .before .before .before .before .loop .inv in (
       ends g (c .before .before .before .before .before .before .before .before .before .before .before .before .before .step .result) (c .before .before .before .before .before .before .before .before .before .before .before .before .before .step .last .1 .1 .0) (c .before .before .before .before .before .before .before .before .before .before .before .before .before .step .last .1 .1 .1 .0) (c .before .before .before .before .before .before .before .before .before .before .before .before .before .step .last .1 .1 .1 .1 .0) (c .before .before .before .before .before .before .before .before .before .before .before .before .before .step .ensures .0) (c .before .before .before .before .before .line-of .ensures) (c .before .before .before .before .put-line .ensures .0) (c .before .goes-on .ensures) (not-true (c .before .goes-on .result) (c .if1 .taken)),
-      omega (arith, c .before .before .before .before .put-line .ensures .1, g .bound, g .ready .good .within, g .ready .good .small),
+      omega (arith, c .before .before .before .before .put-line .ensures .1, longest (c .before .before .before .before .before .line-of .result), g .bound, g .ready .good .within, g .ready .good .small, g .ready .good .few),
     ))
     (λ c. let a = after (c .before .before .before .before .before .before .before .before .before .before .before .before .before .before .before .before .before .before .loop .inv) (c .before .before .before .before .before .before .before .before .before .before .before .before .before .before .step .result) (c .before .before .before .before .before .before .before .before .before .before .before .before .before .before .step .last .1 .1 .0) (c .before .before .before .before .before .before .before .before .before .before .before .before .before .before .step .last .1 .1 .1 .0) (c .before .before .before .before .before .before .before .before .before .before .before .before .before .before .step .last .1 .1 .1 .1 .0) (c .before .before .before .before .before .before .before .before .before .before .before .before .before .before .step .ensures .0) (c .before .before .before .before .before .before .line-of .ensures) (c .before .before .before .before .before .put-line .ensures .0) (c .before .before .goes-on .ensures) (not-false (c .before .before .goes-on .result) (c .before .if1 .left)) in
     omega (arith, a .forth, a .good .within))

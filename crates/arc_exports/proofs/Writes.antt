@@ -1,23 +1,22 @@
 -- What a call leaves: a refusal and the buffer as it was, or an answer and its bytes. Assumes nothing.
 use Prim.Native.Nat.{ℕ, zero, suc, _+_, _*_, _≤_, _<_}
-use mathlib.Core.Path.{_≡_, refl, sym, ap, _∙_}
-use mathlib.Core.Bool.{Bool, true, false}
+use mathlib.Core.Path.{_≡_, sym, _∙_}
 use mathlib.Core.List.{List, [], _∷_, _++_, append-assoc, append-nil}
 use native.Mathlib.Omega.{arith}
 use lib.ListN.{length}
 use lib.Seq.{sets}
-use lib.Dec.{eqb}
-use borrow.Author.Tests.{lt-ltb, le-ltb, eqb-true}
-use Rattle.laws.specs.Loop.{first}
+use borrow.Author.Tests.{lt-ltb, le-ltb}
+use Rattle.laws.proofs.Firsts.{first-zero}
 use Rattle.vec3.specs.declared.Vec3.{Vec3}
 use Rattle.wire.specs.Wire.{floatBytes, vecBytes}
 use Rattle.wire.proofs.Bytes.{three}
+use Rattle.frames.specs.Frames.{sizeFault}
+use Rattle.frames.proofs.Faults.{size-right}
 use Rattle.frames.proofs.Lays.{width}
 use Rattle.arcs.specs.Answers.{Told, refused, answer, judged, arcFault}
 use Rattle.arcs.proofs.Judged.{judged-hit, judged-none}
 use Rattle.frames.specs.Left.{Left, left, refusalOf}
-use Rattle.numbers.specs.Choice.{if_then_else_}
-use Rattle.arc_exports.specs.Arcs.{arcAt, lengthFault, arcJudged, nextJudged, endsJudged, numberOf, valueBytes, leave}
+use Rattle.arc_exports.specs.Arcs.{arcAt, arcJudged, nextJudged, endsJudged, numberOf, valueBytes, leave}
 
 -- ---- the values written one after the other
 pub one-written : {x : List ℕ} (out : List ℕ) (v : Vec3) → x ≡ sets out 0 (vecBytes v) → x ≡ sets out 0 (valueBytes (v ∷ []))
@@ -52,35 +51,19 @@ module _ {f g : ℕ} (t : Told) (e : f ≡ g) where
   went-on-number z p q = rw (← judged-none t e z p) q
 
 -- ---- no refusal: each length is right
-pub zero-left : (a b : ℕ) → first a b ≡ 0 → a ≡ 0
-zero-left zero b e = refl
-zero-left (suc a) b e = e
-
-pub zero-right : (a b : ℕ) → first a b ≡ 0 → b ≡ 0
-zero-right zero b e = e
-zero-right (suc a) b e = absurd (omega (arith, e))
-
-right-length : (s : List ℕ) (n : ℕ) → lengthFault s n ≡ 0 → length s ≡ n
-unfolding lengthFault
-right-length s n h = at (eqb (length s) n) (length s) refl h
-  where
-    at : (b : Bool) (k : ℕ) → eqb k n ≡ b → _≡_ {A = ℕ} (if b then 0 else 1) 0 → k ≡ n
-    at true k e h = eqb-true k n e
-    at false k e h = absurd (omega (arith, h))
-
 module _ {f : ℕ} (a p : List ℕ) (n : ℕ) (e : f ≡ nextJudged a p n) (z : f ≡ 0) where
   none : nextJudged a p n ≡ 0
   none = sym e ∙ z
 
   pub arc-long : 72 ≤ length a
-  arc-long = omega (arith, right-length a 72 (zero-left (lengthFault a 72) (arcFault (arcAt a)) (zero-left (arcJudged a) (lengthFault p n) none)))
+  arc-long = omega (arith, size-right (length a) 72 (first-zero (sizeFault (length a) 72) (arcFault (arcAt a)) (first-zero (arcJudged a) (sizeFault (length p) n) none .0) .0))
 
   pub next-long : n ≤ length p
-  next-long = omega (arith, right-length p n (zero-right (arcJudged a) (lengthFault p n) none))
+  next-long = omega (arith, size-right (length p) n (first-zero (arcJudged a) (sizeFault (length p) n) none .1))
 
 module _ {f : ℕ} (s e : List ℕ) (h : f ≡ endsJudged s e) (z : f ≡ 0) where
   pub start-long : 24 ≤ length s
-  start-long = omega (arith, right-length s 24 (zero-left (lengthFault s 24) (lengthFault e 24) (sym h ∙ z)))
+  start-long = omega (arith, size-right (length s) 24 (first-zero (sizeFault (length s) 24) (sizeFault (length e) 24) (sym h ∙ z) .0))
 
   pub end-long : 24 ≤ length e
-  end-long = omega (arith, right-length e 24 (zero-right (lengthFault s 24) (lengthFault e 24) (sym h ∙ z)))
+  end-long = omega (arith, size-right (length e) 24 (first-zero (sizeFault (length s) 24) (sizeFault (length e) 24) (sym h ∙ z) .1))

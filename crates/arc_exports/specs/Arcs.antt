@@ -6,7 +6,7 @@ use mathlib.Core.Bool.{Bool}
 use mathlib.Core.List.{List, [], _∷_, _++_}
 use lib.ListN.{length}
 use lib.Seq.{sets}
-use lib.Dec.{eqb, ltb}
+use lib.Dec.{ltb}
 use Rattle.numbers.specs.Choice.{if_then_else_}
 use Rattle.laws.specs.Loop.{first}
 use Rattle.vec3.specs.declared.Vec3.{Vec3}
@@ -14,29 +14,27 @@ use Rattle.wire.specs.Wire.{vecOf, vecBytes}
 use Rattle.minor_arc.specs.declared.MinorArc.{MinorArc}
 use Rattle.arcs.specs.Answers.{Told, refused, answer, judged, arcFault, newAnswer, oppositeAnswer, sideAnswer, containsAnswer, intersectionAnswer, relateAnswer}
 use Rattle.frames.specs.Left.{Left, left, refusalOf}
+use Rattle.frames.specs.Frames.{sizeFault}
 
 abbrev pub arcAt : List ℕ → MinorArc
 arcAt s = record { start = vecOf s 0; end = vecOf s 24; normal = vecOf s 48 }
 
 -- ---- what is told, by the bytes
-unfoldable pub lengthFault : List ℕ → ℕ → ℕ
-lengthFault s n = if eqb (length s) n then 0 else 1
-
 abbrev pub arcJudged : List ℕ → ℕ
-arcJudged a = first (lengthFault a 72) (arcFault (arcAt a))
+arcJudged a = first (sizeFault (length a) 72) (arcFault (arcAt a))
 
 -- of an arc, and then of the length of what comes after it
 abbrev pub nextJudged : List ℕ → List ℕ → ℕ → ℕ
-nextJudged a p n = first (arcJudged a) (lengthFault p n)
+nextJudged a p n = first (arcJudged a) (sizeFault (length p) n)
 
 abbrev pub endsJudged : List ℕ → List ℕ → ℕ
-endsJudged s e = first (lengthFault s 24) (lengthFault e 24)
+endsJudged s e = first (sizeFault (length s) 24) (sizeFault (length e) 24)
 
 abbrev pub arcTold : List ℕ → List ℕ → Told
 arcTold s e = judged (endsJudged s e) (newAnswer (vecOf s 0) (vecOf e 0))
 
 abbrev pub oppositeTold : List ℕ → Told
-oppositeTold a = judged (lengthFault a 72) (oppositeAnswer (arcAt a))
+oppositeTold a = judged (sizeFault (length a) 72) (oppositeAnswer (arcAt a))
 
 abbrev pub sideTold : List ℕ → List ℕ → Told
 sideTold a p = judged (nextJudged a p 24) (sideAnswer (arcAt a) (vecOf p 0))

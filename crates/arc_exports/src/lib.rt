@@ -5,6 +5,7 @@ ghost use Prim.Native.Nat.{ℕ, _≤_};
 ghost use lib.ListN.{length};
 ghost use Rattle.arcs.specs.Answers as Answers;
 ghost use Rattle.frames.specs.Left.{left};
+ghost use Rattle.frames.specs.Frames.{sizeFault};
 ghost use Rattle.arc_exports.specs.Arcs as Arcs;
 use arcs::ArcMade;
 use arcs::ArcRelated;
@@ -16,7 +17,7 @@ use minor_arc::MinorArc;
 use vec3::Vec3;
 
 fn length_fault(s: &[u8], n: usize) -> u8
-    ensures { λ r. ⌜ r ≡ Arcs.lengthFault (now (s .entry)) n ⌝ }
+    ensures { λ r. ⌜ r ≡ sizeFault (length (now (s .entry))) n ⌝ }
 {
     if s.len() == n { 0 } else { 1 }
 }

@@ -1,11 +1,11 @@
-use Rattle.arc_exports.specs.Arcs.{lengthFault}
+use Rattle.frames.specs.Frames.{sizeFault}
 use borrow.Author.Tests.{eq-eqb, ne-eqb}
 use borrow.Author.Needs.{needs}
 use Rattle.arc_exports.proofs.arc_judged.Statement.{statement}
 use Rattle.arc_exports.proofs.arc_judged.Tie as tie
 
 pub arc-judged-spec : {M : Type 1} → statement M
-unfolding lengthFault
+unfolding sizeFault
 arc-judged-spec =
     tie.close
     (tie.spec

@@ -1,10 +1,10 @@
-use Rattle.arc_exports.specs.Arcs.{lengthFault}
+use Rattle.frames.specs.Frames.{sizeFault}
 use borrow.Author.Tests.{eq-eqb, ne-eqb}
 use Rattle.arc_exports.proofs.length_fault.Statement.{statement}
 use Rattle.arc_exports.proofs.length_fault.Tie as tie
 
 pub length-fault-spec : {M : Type 1} → statement M
-unfolding lengthFault
+unfolding sizeFault
 length-fault-spec =
     tie.close
     (tie.spec

@@ -1,11 +1,12 @@
-use Rattle.arc_exports.specs.Arcs.{lengthFault, leave}
+use Rattle.frames.specs.Frames.{sizeFault}
+use Rattle.arc_exports.specs.Arcs.{leave}
 use borrow.Author.Tests.{eq-eqb, ne-eqb}
 use borrow.Author.Needs.{needs}
 use Rattle.arc_exports.proofs.opposite.Statement.{statement}
 use Rattle.arc_exports.proofs.opposite.Tie as tie
 
 pub opposite-spec : {M : Type 1} → statement M
-unfolding lengthFault leave
+unfolding sizeFault leave
 opposite-spec =
     tie.close
     (tie.spec

@@ -1,5 +1,5 @@
 /* The desk's geometry for C: the functions of libexports.a (`rt staticlib exports`, x86-64).
-   DESIGN part 6 and document 01 say what each answers. Everything is little-endian. A slice is a pointer and a
+   Document 01 says what each answers. Everything is little-endian. A slice is a pointer and a
    count of elements; it may be null where the count is 0; slices that are written to overlap no other.
    An answer from 65,536 on is a refusal: 65,536 plus its number, and then nothing was written.
 

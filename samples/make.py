@@ -1,7 +1,7 @@
 #!/usr/bin/env python3
-# Makes the scenes of the stored tests, crates/scene_runs/stdin: how many there are, then for each a title and the scene, both with their u32
-# length before them. What they must print, crates/scene_runs/stdout, is what oracle/model says of them, a plain Rust reading of document 01
-# over the unchanged source:  samples/make.py && oracle/target/release/host expected crates/scene_runs/stdin >crates/scene_runs/stdout
+# Makes the scenes of the stored tests, crates/scene_tests/stdin: how many there are, then for each a title and the scene, both with their u32
+# length before them. What they must print, crates/scene_tests/stdout, is what oracle/model says of them, a plain Rust reading of document 01
+# over the unchanged source:  samples/make.py && oracle/target/release/host expected crates/scene_tests/stdin >crates/scene_tests/stdout
 import math
 import os
 import struct
@@ -117,5 +117,5 @@ def part(b):
 
 
 here = os.path.dirname(os.path.abspath(__file__))
-with open(os.path.join(here, '..', 'crates', 'scene_runs', 'stdin'), 'wb') as f:
+with open(os.path.join(here, '..', 'crates', 'scene_tests', 'stdin'), 'wb') as f:
     f.write(struct.pack('<I', len(scenes)) + join(part(f'# {title}\n'.encode()) + part(scene) for title, scene in scenes))

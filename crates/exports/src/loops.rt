@@ -1,57 +1,57 @@
 // The desk's functions on loops, over bytes: each is one call.
 ghost use mathlib.Core.Path.{_≡_};
-ghost use Rattle.pairing.specs.declared.Comparison.the-variants as C;
-ghost use Rattle.pairing.specs.Pairing as Pa;
-ghost use Rattle.frames.specs.Left.{left};
-ghost use Rattle.building.specs.Building as Bu;
-ghost use Rattle.asking.specs.declared.Question.the-variants as Q;
-ghost use Rattle.asking.specs.Asking as As;
-ghost use Rattle.slicing.specs.Slicing as Sl;
-ghost use Rattle.accepting.specs.Checking as Ch;
-use asking::Question;
-use pairing::Comparison;
+ghost use Rattle.bytes_pair.specs.declared.Comparison.the-variants as C;
+ghost use Rattle.bytes_pair.specs.Pair as Pa;
+ghost use Rattle.bytes_loop.specs.Left.{left};
+ghost use Rattle.bytes_build.specs.Build as Bu;
+ghost use Rattle.bytes_ask.specs.declared.Question.the-variants as Q;
+ghost use Rattle.bytes_ask.specs.Ask as As;
+ghost use Rattle.bytes_cut.specs.Cut as Sl;
+ghost use Rattle.bytes_check.specs.Checking as Ch;
+use bytes_ask::Question;
+use bytes_pair::Comparison;
 use vec3::Vec3;
 
 #[no_mangle]
 pub extern "C" fn desk_build(list: &[u8], out: &mut [u8]) -> u32
     ensures { λ r. ⌜ left r (now (out .exit)) ≡ Bu.buildLeft (now (list .entry)) (now (out .entry)) ⌝ }
 {
-    building::build(list, out)
+    bytes_build::build(list, out)
 }
 
 #[no_mangle]
 pub extern "C" fn desk_place(of: &[u8], position: &[u8]) -> u32
     ensures { λ r. ⌜ r ≡ As.numberOf (As.askTold Q.Place (now (of .entry)) (now (position .entry))) ⌝ }
 {
-    asking::ask(Question::Place, of, position)
+    bytes_ask::ask(Question::Place, of, position)
 }
 
 #[no_mangle]
 pub extern "C" fn desk_vertex(of: &[u8], position: &[u8]) -> u32
     ensures { λ r. ⌜ r ≡ As.numberOf (As.askTold Q.Vertex (now (of .entry)) (now (position .entry))) ⌝ }
 {
-    asking::ask(Question::Vertex, of, position)
+    bytes_ask::ask(Question::Vertex, of, position)
 }
 
 #[no_mangle]
 pub extern "C" fn desk_on_edge(of: &[u8], position: &[u8]) -> u32
     ensures { λ r. ⌜ r ≡ As.numberOf (As.askTold Q.OnEdge (now (of .entry)) (now (position .entry))) ⌝ }
 {
-    asking::ask(Question::OnEdge, of, position)
+    bytes_ask::ask(Question::OnEdge, of, position)
 }
 
 #[no_mangle]
 pub extern "C" fn desk_convex(of: &[u8]) -> u32
     ensures { λ r. ⌜ r ≡ As.numberOf (As.convexTold (now (of .entry))) ⌝ }
 {
-    asking::is_convex(of)
+    bytes_ask::is_convex(of)
 }
 
 #[no_mangle]
 pub extern "C" fn desk_simple(of: &[u8]) -> u32
     ensures { λ r. ⌜ r ≡ As.numberOf (As.simpleTold (now (of .entry))) ⌝ }
 {
-    asking::is_simple(of)
+    bytes_ask::is_simple(of)
 }
 
 #[no_mangle]
@@ -66,14 +66,14 @@ pub extern "C" fn desk_place_f64(
 ) -> u32
     ensures { λ r. ⌜ r ≡ As.numberOf (As.placeTold (now (header .entry)) (now (positions .entry)) (now (normals .entry)) (now (classes .entry)) (record { x = x; y = y; z = z })) ⌝ }
 {
-    asking::place(header, positions, normals, classes, Vec3 { x, y, z })
+    bytes_ask::place(header, positions, normals, classes, Vec3 { x, y, z })
 }
 
 #[no_mangle]
 pub extern "C" fn desk_triangles(of: &[u8], out: &mut [u8]) -> u32
     ensures { λ r. ⌜ left r (now (out .exit)) ≡ Sl.trianglesLeft (now (of .entry)) (now (out .entry)) ⌝ }
 {
-    slicing::cut(of, out)
+    bytes_cut::cut(of, out)
 }
 
 #[no_mangle]
@@ -85,28 +85,28 @@ pub extern "C" fn desk_triangles_f64(
 ) -> u32
     ensures { λ r. ⌜ left r (now (out .exit)) ≡ Sl.floatsLeft (now (header .entry)) (now (positions .entry)) (now (classes .entry)) (now (out .entry)) ⌝ }
 {
-    slicing::cut_floats(header, positions, classes, out)
+    bytes_cut::cut_floats(header, positions, classes, out)
 }
 
 #[no_mangle]
 pub extern "C" fn desk_accepts(of: &[u8], triangles: &[u8]) -> u32
     ensures { λ r. ⌜ r ≡ As.numberOf (Ch.acceptsTold (now (of .entry)) (now (triangles .entry))) ⌝ }
 {
-    accepting::accepts(of, triangles)
+    bytes_check::accepts(of, triangles)
 }
 
 #[no_mangle]
 pub extern "C" fn desk_pair(a: &[u8], b: &[u8]) -> u32
     ensures { λ r. ⌜ r ≡ As.numberOf (Pa.pairTold C.Relation (now (a .entry)) (now (b .entry))) ⌝ }
 {
-    pairing::pair(Comparison::Relation, a, b)
+    bytes_pair::pair(Comparison::Relation, a, b)
 }
 
 #[no_mangle]
 pub extern "C" fn desk_equivalent(a: &[u8], b: &[u8]) -> u32
     ensures { λ r. ⌜ r ≡ As.numberOf (Pa.pairTold C.Equivalence (now (a .entry)) (now (b .entry))) ⌝ }
 {
-    pairing::pair(Comparison::Equivalence, a, b)
+    bytes_pair::pair(Comparison::Equivalence, a, b)
 }
 
 #[no_mangle]
@@ -122,7 +122,7 @@ pub extern "C" fn desk_pair_f64(
 ) -> u32
     ensures { λ r. ⌜ r ≡ As.numberOf (Pa.floatsTold (now (header .entry)) (now (positions .entry)) (now (normals .entry)) (now (classes .entry)) (now (other .entry)) (now (others .entry)) (now (theirs .entry)) (now (codes .entry))) ⌝ }
 {
-    pairing::pair_floats(
+    bytes_pair::pair_floats(
         header,
         positions,
         normals,
@@ -144,5 +144,5 @@ pub extern "C" fn desk_build_f64(
 ) -> u32
     ensures { λ r. ⌜ record { number = r; header = now (header .exit); positions = now (positions .exit); normals = now (normals .exit); classes = now (classes .exit) } ≡ Bu.floatsLeft (now (list .entry)) (now (header .entry)) (now (positions .entry)) (now (normals .entry)) (now (classes .entry)) ⌝ }
 {
-    building::build_floats(list, header, positions, normals, classes)
+    bytes_build::build_floats(list, header, positions, normals, classes)
 }

@@ -1,46 +1,46 @@
 // The desk's functions on arcs, over bytes: each is one call.
 ghost use mathlib.Core.Path.{_≡_};
-ghost use Rattle.frames.specs.Left.{left};
-ghost use Rattle.arc_exports.specs.Arcs as Arcs;
+ghost use Rattle.bytes_loop.specs.Left.{left};
+ghost use Rattle.bytes_arcs.specs.Arcs as Arcs;
 
 #[no_mangle]
 pub extern "C" fn desk_arc(start: &[u8], end: &[u8], out: &mut [u8]) -> u32
     ensures { λ r. ⌜ left r (now (out .exit)) ≡ Arcs.leave (Arcs.arcTold (now (start .entry)) (now (end .entry))) (now (out .entry)) ⌝ }
 {
-    arc_exports::make(start, end, out)
+    bytes_arcs::make(start, end, out)
 }
 
 #[no_mangle]
 pub extern "C" fn desk_arc_opposite(arc: &[u8], out: &mut [u8]) -> u32
     ensures { λ r. ⌜ left r (now (out .exit)) ≡ Arcs.leave (Arcs.oppositeTold (now (arc .entry))) (now (out .entry)) ⌝ }
 {
-    arc_exports::opposite(arc, out)
+    bytes_arcs::opposite(arc, out)
 }
 
 #[no_mangle]
 pub extern "C" fn desk_arc_side(arc: &[u8], position: &[u8]) -> u32
     ensures { λ r. ⌜ r ≡ Arcs.numberOf (Arcs.sideTold (now (arc .entry)) (now (position .entry))) ⌝ }
 {
-    arc_exports::side(arc, position)
+    bytes_arcs::side(arc, position)
 }
 
 #[no_mangle]
 pub extern "C" fn desk_arc_contains(arc: &[u8], position: &[u8]) -> u32
     ensures { λ r. ⌜ r ≡ Arcs.numberOf (Arcs.containsTold (now (arc .entry)) (now (position .entry))) ⌝ }
 {
-    arc_exports::contains(arc, position)
+    bytes_arcs::contains(arc, position)
 }
 
 #[no_mangle]
 pub extern "C" fn desk_arc_intersection(a: &[u8], b: &[u8], out: &mut [u8]) -> u32
     ensures { λ r. ⌜ left r (now (out .exit)) ≡ Arcs.leave (Arcs.intersectionTold (now (a .entry)) (now (b .entry))) (now (out .entry)) ⌝ }
 {
-    arc_exports::intersection(a, b, out)
+    bytes_arcs::intersection(a, b, out)
 }
 
 #[no_mangle]
 pub extern "C" fn desk_arc_relate(a: &[u8], b: &[u8], out: &mut [u8]) -> u32
     ensures { λ r. ⌜ left r (now (out .exit)) ≡ Arcs.leave (Arcs.relateTold (now (a .entry)) (now (b .entry))) (now (out .entry)) ⌝ }
 {
-    arc_exports::relate(a, b, out)
+    bytes_arcs::relate(a, b, out)
 }

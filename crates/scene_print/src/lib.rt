@@ -1,7 +1,7 @@
 // What the scene program prints for an input, on standard output.
 ghost use mathlib.Core.Path.{_≡_};
 ghost use lib.ListN.{length};
-ghost use Rattle.scenes.specs.Scenes.{sceneText};
+ghost use Rattle.scene_run.specs.Run.{sceneText};
 use libc::STDOUT_FILENO;
 
 // Room for the longest text. Its `ensures` gives the length alone, so that no proof looks at so many zeros.
@@ -16,7 +16,7 @@ pub fn print(input: &[u8]) -> usize
     ensures { λ r. ⌜ r ≡ length (sceneText (now (input .entry))) ⌝ }
 {
     let mut out = room();
-    let n = scenes::run(input, &mut out);
+    let n = scene_run::run(input, &mut out);
     io::write_all(STDOUT_FILENO, &out[..n]);
     n
 }

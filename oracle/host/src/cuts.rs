@@ -1,4 +1,4 @@
-//! The samples of the program `cuts`: rings as built, and what the source says of each.
+//! The samples of the program `test_cuts`: rings as built, and what the source says of each.
 use crate::random::{P, Random};
 use crate::shapes;
 use jord::spherical::sloop::probe as sloop;

@@ -25,9 +25,9 @@ const USAGE: &str = "\
 host constants                   the numbers that the port records
 host compare GROUP [N] [SEED]    N inputs of a group (or all) to both sides; exit status 1 on a difference
 host groups                      the groups whose exports are there
-host record FILE [N]             about N recorded answers an export, for the program `replay`
-host rings INPUT OUTPUT          the samples of the program `cuts`, and what the source says of them
-host expected FILE               what the model says of the scenes in FILE (samples/make.py), for the stored test `scene_runs`
+host record FILE [N]             about N recorded answers an export, for the program `test_replay`
+host rings INPUT OUTPUT          the samples of the program `test_cuts`, and what the source says of them
+host expected FILE               what the model says of the scenes in FILE (samples/make.py), for the stored test `scene_tests`
 host serve                       answers the stub's batches by the model (for host mutants)
 host mutants [WORD]              wrong programs in the port's place: each must be noticed
 host bench                       nanoseconds of both and their ratio

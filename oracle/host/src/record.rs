@@ -1,4 +1,4 @@
-//! Writes recorded answers for the `replay` program.
+//! Writes recorded answers for the `test_replay` program.
 //!
 //! The file is one record after another, all little-endian. A record is a head of 16 bytes, u16 export (the order of
 //! `calls::Export` and of stub.c), u16 size of what is handed in first, u16 of what is handed in second, u16 of the

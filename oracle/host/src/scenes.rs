@@ -298,7 +298,7 @@ pub fn scenes(t: &mut Tally, r: &mut Random, n: usize, root: &Path) {
     }
 }
 
-/// A part of `scene_runs`' input: its length, then its bytes.
+/// A part of `scene_tests`' input: its length, then its bytes.
 fn part<'a>(rest: &mut &'a [u8]) -> &'a [u8] {
     let (head, tail) = rest.split_at(4);
     let (body, tail) = tail.split_at(u32::from_le_bytes(head.try_into().unwrap()) as usize);
@@ -306,7 +306,7 @@ fn part<'a>(rest: &mut &'a [u8]) -> &'a [u8] {
     body
 }
 
-/// What `scene_runs` must print for an input of `samples/make.py`, by the model.
+/// What `scene_tests` must print for an input of `samples/make.py`, by the model.
 pub fn expected(file: &[u8]) -> Vec<u8> {
     let (head, mut rest) = file.split_at(4);
     let mut out = Vec::new();

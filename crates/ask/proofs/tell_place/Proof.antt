@@ -1,9 +1,0 @@
-use Rattle.ask.proofs.tell_place.Statement.{statement}
-use Rattle.ask.proofs.tell_place.Tie as tie
-
-pub tell-place-spec : {M : Type 1} → statement M
-tell-place-spec =
-    tie.close
-    (tie.spec
-    (λ c. simp (c .if1 .taken))
-    (λ c. simp (c .if1 .left)))

@@ -1,0 +1,62 @@
+-- The exports on arcs, over bytes. "A position that is not 24 bytes, an arc that is not 72: refusal 1. A query's own 1 comes after all refusals of the arc
+-- before it, the second arc's after all of the first's; `desk_arc` judges both lengths before 3 and 4"; 5 "by the bytes that the answer writes"; "Nothing is
+-- written on a refusal, nothing past a result". Definitions only.
+use Prim.Native.Nat.{ℕ, _*_}
+use mathlib.Core.Bool.{Bool}
+use mathlib.Core.List.{List, [], _∷_, _++_}
+use lib.ListN.{length}
+use lib.Seq.{sets}
+use lib.Dec.{ltb}
+use Rattle.numbers.specs.Choice.{if_then_else_}
+use Rattle.laws.specs.Loop.{first}
+use Rattle.vec3.specs.declared.Vec3.{Vec3}
+use Rattle.wire.specs.Wire.{vecOf, vecBytes}
+use Rattle.minor_arc.specs.declared.MinorArc.{MinorArc}
+use Rattle.arcs.specs.Answers.{Told, refused, answer, judged, arcFault, newAnswer, oppositeAnswer, sideAnswer, containsAnswer, intersectionAnswer, relateAnswer}
+use Rattle.bytes_loop.specs.Left.{Left, left, refusalOf}
+use Rattle.bytes_loop.specs.Layout.{sizeFault}
+
+abbrev pub arcAt : List ℕ → MinorArc
+arcAt s = record { start = vecOf s 0; end = vecOf s 24; normal = vecOf s 48 }
+
+-- ---- what is told, by the bytes
+abbrev pub arcJudged : List ℕ → ℕ
+arcJudged a = first (sizeFault (length a) 72) (arcFault (arcAt a))
+
+-- of an arc, and then of the length of what comes after it
+abbrev pub nextJudged : List ℕ → List ℕ → ℕ → ℕ
+nextJudged a p n = first (arcJudged a) (sizeFault (length p) n)
+
+abbrev pub endsJudged : List ℕ → List ℕ → ℕ
+endsJudged s e = first (sizeFault (length s) 24) (sizeFault (length e) 24)
+
+abbrev pub arcTold : List ℕ → List ℕ → Told
+arcTold s e = judged (endsJudged s e) (newAnswer (vecOf s 0) (vecOf e 0))
+
+abbrev pub oppositeTold : List ℕ → Told
+oppositeTold a = judged (sizeFault (length a) 72) (oppositeAnswer (arcAt a))
+
+abbrev pub sideTold : List ℕ → List ℕ → Told
+sideTold a p = judged (nextJudged a p 24) (sideAnswer (arcAt a) (vecOf p 0))
+
+abbrev pub containsTold : List ℕ → List ℕ → Told
+containsTold a p = judged (nextJudged a p 24) (containsAnswer (arcAt a) (vecOf p 0))
+
+abbrev pub intersectionTold : List ℕ → List ℕ → Told
+intersectionTold a b = judged (nextJudged a b 72) (intersectionAnswer (arcAt a) (arcAt b))
+
+abbrev pub relateTold : List ℕ → List ℕ → Told
+relateTold a b = judged (nextJudged a b 72) (relateAnswer (arcAt a) (arcAt b))
+
+-- ---- what is answered and written
+abbrev pub numberOf : Told → ℕ
+numberOf (refused f) = refusalOf f
+numberOf (answer n vs) = n
+
+abbrev pub valueBytes : List Vec3 → List ℕ
+valueBytes [] = []
+valueBytes (v ∷ vs) = vecBytes v ++ valueBytes vs
+
+unfoldable pub leave : Told → List ℕ → Left ℕ
+leave (refused f) out = left (refusalOf f) out
+leave (answer n vs) out = if ltb (length out) (24 * length vs) then left (refusalOf 5) out else left n (sets out 0 (valueBytes vs))

@@ -1,0 +1,18 @@
+use native.Mathlib.Omega.{arith}
+use mathlib.Core.Path.{sym, _∙_}
+use Rattle.loop_ask.specs.Answers.{judged}
+use Rattle.bytes_loop.proofs.Faults.{header-size}
+use Rattle.bytes_ask.proofs.Calls.{gone-number, went-number}
+use borrow.Author.Needs.{needs}
+use Rattle.bytes_ask.proofs.place.Statement.{statement}
+use Rattle.bytes_ask.proofs.place.Tie as tie
+
+pub place-spec : {M : Type 1} → statement M
+place-spec =
+    tie.close
+    (tie.spec
+    (λ c κs. search needs) (λ c κs. search needs)
+    (λ c. gone-number _ (c .before .before .header-fault .ensures) (c .before .if1 .taken) (c .refusal .ensures))
+    (λ c κs. omega (arith, header-size _ (sym (c .before .header-fault .ensures) ∙ c .if1 .left)))
+    (λ c κs. search needs) (λ c κs. search needs)
+    (λ c. went-number _ (c .before .before .before .before .header-fault .ensures) (c .before .before .before .if1 .left) (simp (c .before .before .header-at .ensures) at (c .before .contains-position .ensures)) (c .placed .ensures)))

@@ -1,0 +1,247 @@
+-- A loop that was built in arrays, and its bytes. Assumes nothing.
+use Prim.Native.Nat.{ℕ, zero, suc, _+_, _-_, _*_, _/_, _%_, _≤_, _<_}
+use mathlib.Core.Path.{_≡_, refl, sym, ap, _∙_, subst}
+use mathlib.Core.Logic.{_⊎_, inl, inr}
+use mathlib.Core.Bool.{Bool, true, false, _&&_, _||_, cond}
+use mathlib.Core.List.{List, [], _∷_, _++_, append-nil}
+use native.Mathlib.Omega.{arith}
+use lib.ListN.{length, take, drop, drop-of-length-le, length-append}
+use lib.Seq.{sets, take-at, length-take-le}
+use lib.Dec.{leb, ltb}
+use lib.Ieee.{Float}
+use borrow.Author.Tests.{lt-ltb, le-ltb, ltb-true, ltb-false, eq-eqb, ne-eqb}
+use Rattle.laws.specs.Loop.{first}
+use Rattle.laws.proofs.Copies.{length-flat}
+use Rattle.ring_corners.specs.Corners.{cornerAt, normalAt, classAt, ringOf, normalsOf, classesOf, reversal, allBoth}
+use Rattle.vec3.proofs.Arrays.{size}
+use Rattle.loop_header.specs.declared.Header.{Header}
+use Rattle.loop_build.specs.Build as B
+use Rattle.loop_build.proofs.Rooms.{list-fine}
+use Rattle.loop_build.proofs.Rooms as R
+use Rattle.bytes_loop.specs.Left.{Left, left, refusalOf}
+use Rattle.bytes_loop.specs.Layout.{floatsAt, floatsBytes, headerBytes}
+use Rattle.bytes_loop.proofs.Faults.{by-left}
+use Rattle.bytes_loop.proofs.Lays.{two, floats-width, header-width, floats-length}
+use Rattle.bytes_build.specs.Build.{madeIf, madeOf, loopBytes, needFault, builtLeft, buildLeft, listAt, roomOf, Roomy, Fitting, front, loopLeft, outLeft, headerLeft, floatsLeft, shortHeader, Counted}
+use Rattle.bytes_build.proofs.Rooms.{Behind, behind, need-none, need-header, same-refusal, fits, fine, no-need, header-need}
+
+-- ---- the front of what was written is the loop
+abbrev emptied : {A : Type 0} → List A → List A
+emptied a = []
+
+cut : {A : Type 0} (a b : List A) (k : ℕ) → length a ≡ k → take k (a ++ drop k b) ≡ a ++ drop k []
+cut a b k e =
+    let none : length (emptied a) ≤ k = omega arith in
+    rw (take-at a (drop k b) k e, drop-of-length-le (emptied a) none, append-nil)
+
+module _ (l : List Float) (n : ℕ) where
+  front-made : (b t : Bool) (ps ns : List Float) (cs : List ℕ) → let m = B.madeIf b l n t ps ns cs in front (m .header) (m .positions) (m .normals) (m .classes) ≡ B.madeIf b l n t [] [] []
+  unfolding B.ringHeader
+  front-made true t ps ns cs = refl
+  front-made false t ps ns cs = rw (cut (ringOf l n t) ps (3 * n) (size (cornerAt l n t) n), cut (normalsOf l n t) ns (3 * n) (size (normalAt l n t) n), cut (classesOf l n t) cs n (length-flat (λ k. classAt l n t k ∷ []) (λ j. refl) n 0))
+
+  made-count : (b t : Bool) → B.madeIf b l n t [] [] [] .header .count ≤ n
+  unfolding B.ringHeader
+  made-count true t = omega arith
+  made-count false t = omega arith
+
+  same-header : (b t : Bool) (ps ns : List Float) (cs : List ℕ) → B.madeIf b l n t ps ns cs .header ≡ B.madeIf b l n t [] [] [] .header
+  same-header true t ps ns cs = refl
+  same-header false t ps ns cs = refl
+
+  module _ (ps ns : List Float) (cs : List ℕ) where
+    header-is : (b : Bool) → B.outIf b l n ps ns cs .answer ≡ B.loop (madeIf b l n .header)
+    unfolding B.made
+    header-is true = refl
+    header-is false = ap B.loop (same-header (allBoth (classesOf l n (reversal l n))) (reversal l n) ps ns cs)
+
+    front-is : (b : Bool) → let x = B.outIf b l n ps ns cs in front (madeIf b l n .header) (x .positions) (x .normals) (x .classes) ≡ madeIf b l n
+    unfolding B.made
+    front-is true = refl
+    front-is false = rw (← same-header (allBoth (classesOf l n (reversal l n))) (reversal l n) ps ns cs) (front-made (allBoth (classesOf l n (reversal l n))) (reversal l n) ps ns cs)
+
+  count-is : (b : Bool) → ltb n 3 ≡ b → (3 ≤ n → ⊥) → madeIf b l n .header .count ≡ 0
+  count-is true e h = refl
+  count-is false e h = absurd (h (ltb-false n 3 e))
+
+  count-most : (b : Bool) → madeIf b l n .header .count ≤ n
+  unfolding B.made
+  count-most true = omega arith
+  count-most false = made-count (allBoth (classesOf l n (reversal l n))) (reversal l n)
+
+-- ---- the answer tells whether there was a refusal
+module _ (l ps ns : List Float) (cs : List ℕ) where
+  refused-is : (k f : ℕ) → B.refused f ≡ B.outBy k l ps ns cs .answer → (f ≡ k) × (k ≡ 0 → ⊥)
+  refused-is zero f e =
+      let g = e ∙ header-is l (B.openedCount l) ps ns cs (ltb (B.openedCount l) 3) in
+      let z : _≡_ {A = ℕ} 0 1 = cc in
+      absurd (omega arith)
+  refused-is (suc k) f e = ((cc), λ z. omega arith)
+
+  looped-is : (k : ℕ) (h : Header) → B.loop h ≡ B.outBy k l ps ns cs .answer → k ≡ 0
+  looped-is zero h e = refl
+  looped-is (suc k) h e = let z : _≡_ {A = ℕ} 0 1 = cc in absurd (omega arith)
+
+module _ (l ps ns : List Float) (cs out : List ℕ) (w : Roomy (length out) (length ps) (length ns) (length cs)) {ps′ ns′ : List Float} {cs′ : List ℕ} where
+  pub was-refused : {f r : ℕ} → record { answer = B.refused f; positions = ps′; normals = ns′; classes = cs′ } ≡ B.out l ps ns cs → r ≡ refusalOf f → left r out ≡ builtLeft l out
+  unfolding B.out builtLeft
+  was-refused {f} e q =
+      let a = refused-is l ps ns cs (B.refusal l ps ns cs) f (ap (λ (x : B.Out). x .answer) e) in
+      rw (q, same-refusal l ps ns cs (length out) w (a .1), ← a .0) (by-left f out _ (λ z. a .1 (sym (a .0) ∙ z)))
+
+  module _ {h : Header} (e : record { answer = B.loop h; positions = ps′; normals = ns′; classes = cs′ } ≡ B.out l ps ns cs) where
+    none : B.refusal l ps ns cs ≡ 0
+    unfolding B.out
+    none = looped-is l ps ns cs (B.refusal l ps ns cs) h (ap (λ (x : B.Out). x .answer) e)
+
+    whole : record { answer = B.loop h; positions = ps′; normals = ns′; classes = cs′ } ≡ B.outIf (ltb (B.openedCount l) 3) l (B.openedCount l) ps ns cs
+    unfolding B.out
+    whole = e ∙ ap (λ (k : ℕ). B.outBy k l ps ns cs) none
+
+    header-of : h ≡ madeOf l .header
+    unfolding madeOf
+    header-of = let g = ap (λ (x : B.Out). x .answer) whole ∙ header-is l (B.openedCount l) ps ns cs (ltb (B.openedCount l) 3) in cc
+
+    front-of : front h ps′ ns′ cs′ ≡ madeOf l
+    unfolding madeOf
+    front-of = rw (header-of, ap (λ (x : B.Out). x .positions) whole, ap (λ (x : B.Out). x .normals) whole, ap (λ (x : B.Out). x .classes) whole) (front-is l (B.openedCount l) ps ns cs (ltb (B.openedCount l) 3))
+
+    short : length out < 88 → loopLeft h ps′ ns′ cs′ out ≡ builtLeft l out
+    unfolding loopLeft builtLeft
+    short g = rw (lt-ltb _ _ g, header-need l ps ns cs (length out) w none g)
+
+    long : 88 ≤ length out → loopLeft h ps′ ns′ cs′ out ≡ builtLeft l out
+    unfolding loopLeft builtLeft
+    long g = rw (le-ltb _ _ g, no-need l ps ns cs (length out) w none g) (ap (λ (m : B.Made). left (m .header .count) (sets out 0 (loopBytes m))) front-of)
+
+    pub was-written : {x : Left ℕ} → x ≡ loopLeft h ps′ ns′ cs′ out → x ≡ builtLeft l out
+    was-written q = q ∙ at (ltb (length out) 88) refl
+      where
+        at : (b : Bool) → ltb (length out) 88 ≡ b → loopLeft h ps′ ns′ cs′ out ≡ builtLeft l out
+        at true t = short (ltb-true _ _ t)
+        at false t = long (ltb-false _ _ t)
+
+    -- the loop fits
+    counted : h .count ≤ length cs
+    unfolding madeOf
+    counted = at (ltb (B.openedCount l) 3) refl
+      where
+        at : (b : Bool) → ltb (B.openedCount l) 3 ≡ b → h .count ≤ length cs
+        at true t = rw (header-of, t) (omega arith)
+        at false t = omega (arith, fits l ps ns cs (length out) w none (ltb-false _ _ t), rw (← header-of) at (count-most l (B.openedCount l) (ltb (B.openedCount l) 3)))
+
+    pub fitting : length ps′ ≡ length ps → length ns′ ≡ length ns → length cs′ ≡ length cs → Fitting h (length out) (length ps′) (length ns′) (length cs′)
+    fitting p q r =
+        let b = behind (length out) in
+        record {
+          most = omega (arith, counted, b .most, w .for-classes);
+          within = omega (arith, counted, b .within, w .for-classes);
+          for-positions = omega (arith, counted, w .for-positions, w .for-classes);
+          for-normals = omega (arith, counted, w .for-normals, w .for-classes);
+          for-classes = omega (arith, counted);
+        }
+
+-- ---- four stores in a row
+module _ (h : Header) (ps ns : List Float) (cs out : List ℕ) (f : Fitting h (length out) (length ps) (length ns) (length cs)) where
+  floats-size : (l : List Float) → 3 * h .count ≤ length l → length (floatsBytes (take (3 * h .count) l)) ≡ 24 * h .count
+  floats-size l g = rw (floats-width (take (3 * h .count) l), length-take-le (3 * h .count) l g) (omega arith)
+
+  pub stored : {x y z t : List ℕ} → 88 ≤ length out → x ≡ sets out 0 (headerBytes h) → y ≡ sets x 88 (floatsBytes (take (3 * h .count) ps))
+      → z ≡ sets y (88 + 24 * h .count) (floatsBytes (take (3 * h .count) ns)) → t ≡ sets z (88 + 48 * h .count) (take (h .count) cs)
+      → left (h .count) t ≡ loopLeft h ps ns cs out
+  unfolding loopLeft
+  stored g a b c d =
+      let H = headerBytes h in
+      let P = floatsBytes (take (3 * h .count) ps) in
+      let N = floatsBytes (take (3 * h .count) ns) in
+      let k = header-width h in
+      let m = floats-size ps (f .for-positions) in
+      let n = floats-size ns (f .for-normals) in
+      let y₂ = two out H P 0 88 a b (omega arith) in
+      let z₂ = two out (H ++ P) N 0 (88 + 24 * h .count) y₂ c (rw (length-append H P) (omega arith)) in
+      let t₂ = two out (H ++ P ++ N) (take (h .count) cs) 0 (88 + 48 * h .count) z₂ d (rw (length-append (H ++ P) N, length-append H P) (omega arith)) in
+      rw (le-ltb _ _ g, t₂)
+
+-- ---- lists in bytes
+pub unread : (s : List ℕ) (out : List ℕ) {r : ℕ} → (length s % 24 ≡ 0 → ⊥) → r ≡ refusalOf 1 → left r out ≡ buildLeft s out
+unfolding buildLeft
+unread s out h e = rw (ne-eqb _ _ h, e)
+
+module _ (s out : List ℕ) (h : length s % 24 ≡ 0) where
+  pub in-bytes : {x : Left ℕ} → x ≡ builtLeft (listAt s) out → x ≡ buildLeft s out
+  unfolding buildLeft
+  in-bytes q = rw (eq-eqb _ _ h) q
+
+  too-many : 512 < length s / 24 → B.listFault (listAt s) ≡ 2
+  unfolding B.listFault
+  too-many g =
+      let e = floats-length s 0 (length s / 8) in
+      let a : length s / 8 % 3 ≡ 0 = omega arith in
+      let b : 512 < length s / 8 / 3 = omega arith in
+      rw (e, eq-eqb _ _ a, lt-ltb _ _ b)
+
+  pub too-long : {r : ℕ} → 512 < length s / 24 → r ≡ refusalOf 2 → left r out ≡ buildLeft s out
+  unfolding builtLeft
+  too-long g e = in-bytes (rw (too-many g, e))
+
+pub read-list : (s out : List ℕ) (n : ℕ) {l : List Float} {x : Left ℕ} → l ≡ floatsAt s 0 n → 8 * n ≡ length s → x ≡ builtLeft l out → x ≡ builtLeft (listAt s) out
+read-list s out n e h q =
+    let k : length s / 8 ≡ n = omega arith in
+    rw (k, ← e) q
+
+-- arrays of the bytes' room
+pub roomy : {n : ℕ} (size : ℕ) {p q r : ℕ} → n ≡ roomOf size → p ≡ 3 * n → q ≡ 3 * n → r ≡ n → Roomy size p q r
+roomy size e a b d = record { for-positions = rw (← e) a; for-normals = rw (← e) b; for-classes = d ∙ e }
+
+pub given-size : (s : List ℕ) (p : ℕ) → p ≡ 3 * (length s / 24) → length s % 24 ≡ 0 → 8 * p ≡ length s
+given-size s p e h = omega arith
+
+-- ---- with the header alone in bytes
+five-or-none : (n p q r : ℕ) → (B.roomFault n p q r ≡ 0) ⊎ (B.roomFault n p q r ≡ 5)
+unfolding B.roomFault
+five-or-none n p q r = at (leb 3 n && ((ltb p (3 * n) || ltb q (3 * n)) || ltb r n))
+  where
+    at : (b : Bool) → (_≡_ {A = ℕ} (cond b 5 0) 0) ⊎ (_≡_ {A = ℕ} (cond b 5 0) 5)
+    at true = inr refl
+    at false = inl refl
+
+one-five : (a b : ℕ) → (b ≡ 0) ⊎ (b ≡ 5) → first (first a b) 5 ≡ first a 5
+one-five (suc a) b o = refl
+one-five zero b (inl e) = rw e
+one-five zero b (inr e) = rw e
+
+first-none : (a : ℕ) → first a 0 ≡ a
+first-none zero = refl
+first-none (suc a) = refl
+
+module _ (l ps ns : List Float) (cs header : List ℕ) where
+  short-five : first (B.refusal l ps ns cs) 5 ≡ first (B.listFault l) 5
+  unfolding B.refusal
+  short-five = one-five (B.listFault l) _ (five-or-none (B.openedCount l) (length ps) (length ns) (length cs))
+
+  pub unheaded : {r : ℕ} → length header < 88 → r ≡ shortHeader l → record { number = r; header = header; positions = ps; normals = ns; classes = cs } ≡ floatsLeft l header ps ns cs
+  unfolding floatsLeft
+  unheaded g q = rw (need-header (length header) 0 g, short-five, q) (at (B.listFault l))
+    where
+      at : (f : ℕ) → record { number = refusalOf (first f 5); header = header; positions = ps; normals = ns; classes = cs } ≡ outLeft (B.outBy (first f 5) l ps ns cs) header
+      at zero = refl
+      at (suc f) = refl
+
+  room-above : 88 ≤ length header → floatsLeft l header ps ns cs ≡ outLeft (B.out l ps ns cs) header
+  unfolding floatsLeft B.out
+  room-above g = rw (need-none (length header) 0 g (λ (z : 3 ≤ 0). absurd (omega arith)), first-none (B.refusal l ps ns cs))
+
+  counted-by : (k : ℕ) → B.refusal l ps ns cs ≡ k → Counted (B.outBy k l ps ns cs .answer)
+  counted-by (suc k) e = tt
+  counted-by zero e =
+      let m = list-fine l (R.fine l ps ns cs e .0) in
+      subst (λ (x : B.Told). Counted x) (sym (header-is l (B.openedCount l) ps ns cs (ltb (B.openedCount l) 3))) (omega (arith, m .small, count-most l (B.openedCount l) (ltb (B.openedCount l) 3)))
+
+  module _ {u : B.Told} {ps′ ns′ : List Float} {cs′ : List ℕ} (e : record { answer = u; positions = ps′; normals = ns′; classes = cs′ } ≡ B.out l ps ns cs) where
+    pub counted-told : Counted u
+    unfolding B.out
+    counted-told = subst (λ (x : B.Told). Counted x) (sym (ap (λ (o : B.Out). o .answer) e)) (counted-by (B.refusal l ps ns cs) refl)
+
+    pub headed : {r : ℕ} {header′ : List ℕ} → 88 ≤ length header → left r header′ ≡ headerLeft u header
+        → record { number = r; header = header′; positions = ps′; normals = ns′; classes = cs′ } ≡ floatsLeft l header ps ns cs
+    headed g q = rw (room-above g, ap (λ (x : Left ℕ). x .number) q, ap (λ (x : Left ℕ). x .out) q) (ap (λ (o : B.Out). outLeft o header) e)

@@ -1,0 +1,29 @@
+use native.Mathlib.Omega.{arith}
+use mathlib.Core.Path.{sym, _∙_}
+use Rattle.numbers.specs.F64 as F
+use Rattle.laws.proofs.Copies.{first-of}
+use Rattle.bytes_build.proofs.Builds.{unread, too-long, in-bytes, roomy, given-size}
+use borrow.Author.Needs.{needs}
+use Rattle.bytes_build.proofs.build.Statement.{statement}
+use Rattle.bytes_build.proofs.build.Tie as tie
+
+pub build-spec : {M : Type 1} → statement M
+build-spec =
+    tie.close
+    (tie.spec
+    (λ c κs. search needs)
+    (λ c. unread _ _ (c .before .if1 .taken) (c .refusal .ensures))
+    (λ c κs. search needs)
+    (λ c. too-long _ _ (c .before .before .if1 .left) (c .before .if2 .taken) (c .refusal2 .ensures))
+    (λ c. search needs) (λ c κs. search needs) (λ c. search needs) (λ c. search needs)
+    (λ c. sym (first-of 1536 F.zero (omega arith)))
+    (λ c. search needs)
+    (λ c. sym (first-of 1536 F.zero (omega arith)))
+    (λ c. search needs)
+    (λ c. sym (first-of 1536 F.zero (omega arith)))
+    (λ c. search needs)
+    (λ c. sym (first-of 512 0 (omega arith)))
+    (λ c κs. let n = c .before .before .before .before .before .room-of .ensures in
+    (roomy _ (n .0) (first-of 1536 F.zero (omega arith)) (first-of 1536 F.zero (omega arith)) (first-of 512 0 (omega arith)), given-size (c .before .before .before .before .before .before .before .before .before .before .args .list .now) _ (first-of 1536 F.zero (omega arith)) (c .before .before .before .before .before .before .before .if1 .left)))
+    (λ c. search needs)
+    (λ c. in-bytes _ _ (c .before .before .before .before .before .before .before .before .before .before .before .before .before .before .if1 .left) (c .before .before .before .before .before .before .build-in .ensures)))

@@ -1,0 +1,108 @@
+-- Building over bytes, and over floats with the header in bytes. "`desk_build(list, out)`: count of the loop written to `out` (0 for empty and full, whose 88 bytes are written)"; refusal 5: "`out` of
+-- `desk_build` shorter than 88 + 49n (n the opened count, 0 below three; so below 88 for an empty loop too)". Definitions only.
+use Prim.Native.Nat.{ℕ, zero, suc, _+_, _-_, _*_, _/_, _%_, _≤_}
+use mathlib.Core.Path.{_≡_}
+use mathlib.Core.Bool.{Bool, true, false, cond}
+use mathlib.Core.List.{List, [], _++_}
+use lib.ListN.{length, take}
+use lib.Seq.{sets}
+use lib.Dec.{eqb, ltb}
+use lib.Ieee.{Float}
+use Rattle.numbers.specs.Choice.{if_then_else_}
+use Rattle.laws.specs.Loop.{first}
+use Rattle.loop_header.specs.declared.Header.{Header}
+use Rattle.loop_header.specs.Loops.{emptyHeader}
+use Rattle.loop_build.specs.Build.{listFault, openedCount, Made, made}
+use Rattle.loop_build.specs.Build as B
+use Rattle.bytes_loop.specs.Left.{Left, left, refusalOf, leftBy}
+use Rattle.bytes_loop.specs.Layout.{floatsAt, headerBytes, floatsBytes}
+
+-- the loop of a list: its header and its three lists
+abbrev pub madeIf : Bool → List Float → ℕ → Made
+madeIf true l n = record { header = emptyHeader; positions = []; normals = []; classes = [] }
+madeIf false l n = made l n [] [] []
+
+unfoldable pub madeOf : List Float → Made
+madeOf l = madeIf (ltb (openedCount l) 3) l (openedCount l)
+
+-- a loop in bytes
+abbrev pub loopBytes : Made → List ℕ
+loopBytes m = headerBytes (m .header) ++ floatsBytes (m .positions) ++ floatsBytes (m .normals) ++ m .classes
+
+-- the corners that room is judged by
+unfoldable pub corners : ℕ → ℕ
+corners n = cond (ltb n 3) 0 n
+
+unfoldable pub needFault : ℕ → ℕ → ℕ
+needFault size n = cond (ltb size (88 + 49 * corners n)) 5 0
+
+-- of a list of floats
+unfoldable pub builtLeft : List Float → List ℕ → Left ℕ
+builtLeft l out =
+    leftBy (first (listFault l) (needFault (length out) (openedCount l))) out
+    (left (madeOf l .header .count) (sets out 0 (loopBytes (madeOf l))))
+
+-- of a list in bytes, 24 a position
+abbrev pub listAt : List ℕ → List Float
+listAt s = floatsAt s 0 (length s / 8)
+
+unfoldable pub buildLeft : List ℕ → List ℕ → Left ℕ
+buildLeft s out = leftBy (cond (eqb (length s % 24) 0) 0 1) out (builtLeft (listAt s) out)
+
+-- with the header alone in bytes: what building leaves in the three slices, and its header
+pub record FloatsLeft : Type 0 where
+  pub number : ℕ
+  pub header : List ℕ
+  pub positions : List Float
+  pub normals : List Float
+  pub classes : List ℕ
+
+abbrev pub headerLeft : B.Told → List ℕ → Left ℕ
+headerLeft (B.refused f) header = left (refusalOf f) header
+headerLeft (B.loop h) header = left (h .count) (sets header 0 (headerBytes h))
+
+abbrev pub outLeft : B.Out → List ℕ → FloatsLeft
+outLeft o header = record {
+  number = headerLeft (o .answer) header .number;
+  header = headerLeft (o .answer) header .out;
+  positions = o .positions;
+  normals = o .normals;
+  classes = o .classes;
+}
+
+-- "the `_f64` header shorter than 88 or its slices too short"
+unfoldable pub floatsLeft : List Float → List ℕ → List Float → List Float → List ℕ → FloatsLeft
+floatsLeft l header ps ns cs = outLeft (B.outBy (first (B.refusal l ps ns cs) (needFault (length header) 0)) l ps ns cs) header
+
+-- ---- inner
+-- the refusal of a list whose header has no room
+abbrev pub shortHeader : List Float → ℕ
+shortHeader l = refusalOf (first (listFault l) 5)
+
+-- a count that four bytes hold
+abbrev pub Counted : B.Told → Type 0
+Counted (B.refused f) = Unit
+Counted (B.loop h) = h .count ≤ 512
+
+-- the corners that there is room for
+unfoldable pub roomOf : ℕ → ℕ
+roomOf size = if ltb size 88 then 0 else (if ltb 512 ((size - 88) / 49) then 512 else (size - 88) / 49)
+
+pub record Roomy (out positions normals classes : ℕ) : Type 0 where
+  pub for-positions : positions ≡ 3 * roomOf out
+  pub for-normals : normals ≡ 3 * roomOf out
+  pub for-classes : classes ≡ roomOf out
+
+-- a loop that fits where its header does
+pub record Fitting (h : Header) (out positions normals classes : ℕ) : Type 0 where
+  pub most : h .count ≤ 512
+  pub within : 49 * h .count ≤ out - 88
+  pub for-positions : 3 * h .count ≤ positions
+  pub for-normals : 3 * h .count ≤ normals
+  pub for-classes : h .count ≤ classes
+
+abbrev pub front : Header → List Float → List Float → List ℕ → Made
+front h ps ns cs = record { header = h; positions = take (3 * h .count) ps; normals = take (3 * h .count) ns; classes = take (h .count) cs }
+
+unfoldable pub loopLeft : Header → List Float → List Float → List ℕ → List ℕ → Left ℕ
+loopLeft h ps ns cs out = if ltb (length out) 88 then left (refusalOf 5) out else left (h .count) (sets out 0 (loopBytes (front h ps ns cs)))

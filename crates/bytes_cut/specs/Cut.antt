@@ -1,0 +1,83 @@
+-- Triangles over bytes: "`desk_triangles(loop, out)`: number of triples written", three u16 each. 5: "an output is shorter than the result needs", judged
+-- "for a ring's triangles by n-2, before 8". Definitions only.
+use Prim.Native.Nat.{ℕ, zero, suc, _+_, _-_, _*_, _≤_}
+use mathlib.Core.Path.{_≡_}
+use mathlib.Core.Bool.{cond}
+use mathlib.Core.List.{List}
+use lib.ListN.{length, replicate}
+use lib.Seq.{sets}
+use lib.Dec.{ltb}
+use lib.Ieee.{Float}
+use Rattle.laws.specs.Loop.{first}
+use Rattle.loop_header.specs.declared.State.{State}
+use Rattle.loop_header.specs.declared.State.the-variants.{Empty, Full, Ring}
+use Rattle.loop_header.specs.declared.Header.{Header}
+use Rattle.loop_header.specs.Loops.{cutFault}
+use Rattle.loop_ask.specs.Answers.{Told, refused, answer}
+use Rattle.loop_triangles.specs.declared.Cut.{Cut}
+use Rattle.loop_triangles.specs.Triangles as T
+use Rattle.bytes_loop.specs.Left.{Left, left, refusalOf, leftBy}
+use Rattle.bytes_loop.specs.Layout.{countAt, headerAt, positionsAt, classesAt, numbersBytes, headerFault, frameFault}
+use Rattle.bytes_ask.specs.Ask.{numberOf}
+
+-- how many triangles a loop has: none, 20 or n - 2
+abbrev pub triplesBy : State → ℕ → ℕ
+triplesBy Empty n = 0
+triplesBy Full n = 20
+triplesBy Ring n = n - 2
+
+abbrev pub triplesOf : Header → ℕ
+triplesOf h = triplesBy (h .state) (h .count)
+
+-- what was cut: a refusal, or the triangles in bytes
+abbrev pub toldLeft : Told → List ℕ → List ℕ → Left ℕ
+toldLeft (refused f) l out = left (refusalOf f) out
+toldLeft (answer n) l out = left n (sets out 0 (numbersBytes l))
+
+abbrev pub outLeft : T.Out → List ℕ → Left ℕ
+outLeft o out = toldLeft (o .answer) (o .triangles) out
+
+-- room for as many numbers
+unfoldable pub blank : ℕ → List ℕ
+blank n = replicate n 0
+
+-- of a loop in its parts: its refusals, then 5, then what the cutting with room for all comes to
+abbrev pub cutLeft : Header → List Float → List ℕ → List ℕ → List ℕ → Left ℕ
+cutLeft h ps cs triples out = outLeft (T.cutOut h ps cs triples) out
+
+unfoldable pub roomFault : Header → ℕ → ℕ
+roomFault h size = cond (ltb size (6 * triplesOf h)) 5 0
+
+unfoldable pub partsLeft : Header → List Float → List ℕ → List ℕ → Left ℕ
+partsLeft h ps cs out = leftBy (first (cutFault h ps cs) (roomFault h (length out))) out (cutLeft h ps cs (blank (3 * triplesOf h)) out)
+
+-- of a loop in bytes
+unfoldable pub trianglesLeft : List ℕ → List ℕ → Left ℕ
+trianglesLeft s out = leftBy (frameFault s) out (partsLeft (headerAt s) (positionsAt s) (classesAt s) out)
+
+-- with the header alone in bytes, and the output in numbers
+abbrev pub numbersLeft : T.Out → Left ℕ
+numbersLeft o = left (numberOf (o .answer)) (o .triangles)
+
+unfoldable pub floatsLeft : List ℕ → List Float → List ℕ → List ℕ → Left ℕ
+floatsLeft s ps cs out = leftBy (headerFault s) out (numbersLeft (T.cutOut (headerAt s) ps cs out))
+
+-- ---- inner
+abbrev pub toldCut : Cut → Told
+toldCut = T.toldCut
+
+abbrev pub Small : Told → Type 0
+Small (refused f) = Unit
+Small (answer n) = n ≤ 510
+
+abbrev pub Counted : Cut → Type 0
+Counted c = Small (T.toldCut c)
+
+abbrev pub laidLeft : Cut → List ℕ → List ℕ → Left ℕ
+laidLeft c l out = toldLeft (T.toldCut c) l out
+
+-- a loop in bytes with an array for its positions
+pub record Array (s : List ℕ) (positions : ℕ) : Type 0 where
+  pub size : length s ≡ 88 + 49 * countAt s
+  pub most : countAt s ≤ 512
+  pub for-positions : positions ≡ 3 * countAt s

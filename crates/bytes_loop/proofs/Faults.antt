@@ -1,0 +1,79 @@
+-- Refusals by a length, and what none of them tells. Assumes nothing.
+use Prim.Native.Nat.{ℕ, zero, suc, _+_, _*_, _≤_, _<_}
+use mathlib.Core.Path.{_≡_, refl, sym, ap, _∙_}
+use mathlib.Core.Bool.{Bool, true, false, cond}
+use mathlib.Core.List.{List}
+use native.Mathlib.Omega.{arith}
+use lib.ListN.{length}
+use lib.Dec.{eqb, ltb}
+use borrow.Author.Tests.{eq-eqb, ne-eqb, eqb-true, lt-ltb, le-ltb, ltb-false}
+use Rattle.laws.specs.Loop.{first}
+use Rattle.laws.proofs.Firsts.{first-zero, test-none, test-passed}
+use Rattle.loop_header.specs.declared.State.{State}
+use Rattle.loop_header.specs.declared.State.the-variants.{Empty, Full, Ring}
+use Rattle.bytes_loop.specs.Left.{Left, left, refusalOf, leftBy}
+use Rattle.bytes_loop.specs.Layout.{countAt, stateByte, stateOf, stateFault, sizeFault, headerFault, frameFault, largeFault, manyFault, copyFault}
+
+module _ (size n : ℕ) where
+  pub wrong-size : (size ≡ n → ⊥) → sizeFault size n ≡ 1
+  unfolding sizeFault
+  wrong-size h = rw (ne-eqb size n h)
+
+  pub right-size : size ≡ n → sizeFault size n ≡ 0
+  unfolding sizeFault
+  right-size h = rw (eq-eqb size n h)
+
+  pub size-right : sizeFault size n ≡ 0 → size ≡ n
+  unfolding sizeFault
+  size-right e = eqb-true size n (test-passed _ _ e)
+
+module _ (s : List ℕ) where
+  pub frame-wrong : (length s ≡ 88 + 49 * countAt s → ⊥) → 1 ≡ frameFault s
+  unfolding frameFault
+  frame-wrong h = rw (wrong-size (length s) (88 + 49 * countAt s) h)
+
+  pub frame-state : {f : ℕ} → length s ≡ 88 + 49 * countAt s → f ≡ stateFault s → f ≡ frameFault s
+  unfolding frameFault
+  frame-state h e = rw (right-size (length s) (88 + 49 * countAt s) h) e
+
+  pub header-wrong : (length s ≡ 88 → ⊥) → 1 ≡ headerFault s
+  unfolding headerFault
+  header-wrong h = rw (wrong-size (length s) 88 h)
+
+  pub header-state : {f : ℕ} → length s ≡ 88 → f ≡ stateFault s → f ≡ headerFault s
+  unfolding headerFault
+  header-state h e = rw (right-size (length s) 88 h) e
+
+  -- no refusal
+  pub header-size : headerFault s ≡ 0 → length s ≡ 88
+  unfolding headerFault
+  header-size e = size-right (length s) 88 (first-zero _ _ e .0)
+
+  pub frame-size : frameFault s ≡ 0 → length s ≡ 88 + 49 * countAt s
+  unfolding frameFault
+  frame-size e = size-right (length s) (88 + 49 * countAt s) (first-zero _ _ e .0)
+
+large-not-none : (t : State) → largeFault t ≡ 0 → ⊥
+large-not-none Empty e = omega arith
+large-not-none Full e = omega arith
+large-not-none Ring e = omega arith
+
+many-none : (b : Bool) (t : State) → cond b (largeFault t) 0 ≡ 0 → b ≡ false
+many-none true t e = absurd (large-not-none t e)
+many-none false t e = refl
+
+pub record Copyable (s : List ℕ) : Type 0 where
+  pub framed : frameFault s ≡ 0
+  pub size : length s ≡ 88 + 49 * countAt s
+  pub most : countAt s ≤ 512
+
+pub copyable : (s : List ℕ) → copyFault s ≡ 0 → Copyable s
+unfolding copyFault manyFault
+copyable s e =
+    let a = first-zero _ _ e in
+    record { framed = a .0; size = frame-size s (a .0); most = ltb-false _ _ (many-none (ltb 512 (countAt s)) (stateOf (stateByte s)) (a .1)) }
+
+-- a refusal leaves the output as it was
+pub by-left : {A : Type 0} (k : ℕ) (out : List A) (x : Left A) → (k ≡ 0 → ⊥) → left (refusalOf k) out ≡ leftBy k out x
+by-left zero out x h = absurd (h refl)
+by-left (suc k) out x h = refl

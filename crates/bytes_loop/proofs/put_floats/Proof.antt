@@ -1,0 +1,34 @@
+use Rattle.bytes_loop.proofs.Lays.{Lay, lay, lay-on, lay-end, copy-laid}
+use lib.ListN.{length}
+use mathlib.Core.Path.{refl}
+use Prim.Native.Nat.{_-_}
+use native.Mathlib.Omega.{arith}
+use Rattle.wire.proofs.Bytes.{eight}
+use Rattle.bytes_loop.specs.Layout.{floatBytesAt, floatsBytes}
+use borrow.Author.Needs.{needs}
+use Rattle.bytes_loop.proofs.put_floats.Statement.{statement}
+use Rattle.bytes_loop.proofs.put_floats.Tie as tie
+
+abbrev Inv-loop : tie.InvT-loop
+Inv-loop out₀ at from i₀ i-end out i = Lay 8 at (floatBytesAt from) (length from) i out₀ out
+
+abbrev μ-loop : tie.MeasureT-loop
+μ-loop out₀ at from i₀ i-end out i = length from - i
+
+pub put-floats-spec : {M : Type 1} → statement M
+unfolding floatsBytes
+put-floats-spec =
+    tie.close
+    (tie.spec
+    Inv-loop μ-loop
+    (λ c. lay)
+    (λ c. search needs)
+    (λ c. search needs)
+    (λ c. search needs)
+    (λ c. search needs)
+    (λ c κs. search needs)
+    (λ c. search needs)
+    (λ c. search needs)
+    (λ c. lay-on (c .before .before .before .before .before .before .loop .inv) (λ j. eight _) (c .before .before .put-float .ensures) (omega arith))
+    (λ c. search needs)
+    (λ c. lay-end (c .before .loop .inv) (omega arith)))

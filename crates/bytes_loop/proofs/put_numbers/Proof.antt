@@ -1,0 +1,34 @@
+use native.Mathlib.Nat.{zero-add}
+use Rattle.bytes_loop.proofs.Lays.{Lay, lay, lay-on, lay-end, copy-laid}
+use lib.ListN.{length}
+use mathlib.Core.Path.{refl}
+use Prim.Native.Nat.{_-_}
+use native.Mathlib.Omega.{arith}
+use Rattle.bytes_loop.specs.Layout.{numberBytesAt, numbersBytes}
+use borrow.Author.Needs.{needs}
+use Rattle.bytes_loop.proofs.put_numbers.Statement.{statement}
+use Rattle.bytes_loop.proofs.put_numbers.Tie as tie
+
+abbrev Inv-loop : tie.InvT-loop
+Inv-loop out₀ from i₀ i-end out i = Lay 2 0 (numberBytesAt from) (length from) i out₀ out
+
+abbrev μ-loop : tie.MeasureT-loop
+μ-loop out₀ from i₀ i-end out i = length from - i
+
+pub put-numbers-spec : {M : Type 1} → statement M
+unfolding numbersBytes
+put-numbers-spec =
+    tie.close
+    (tie.spec
+    Inv-loop μ-loop
+    (λ c. lay)
+    (λ c. search needs)
+    (λ c. search needs)
+    (λ c. search needs)
+    (λ c κs. search needs)
+    (λ c κs. search needs)
+    (λ c. search needs)
+    (λ c. search needs)
+    (λ c. lay-on (c .before .before .before .before .before .before .before .loop .inv) (λ j. refl) (rw zero-add (simp (c .before .before .before .wide .ensures) at (c .before .before .put-u16 .ensures))) (omega arith))
+    (λ c. search needs)
+    (λ c. lay-end (c .before .loop .inv) (omega arith)))

@@ -1,0 +1,153 @@
+-- A loop in bytes. "u16 count, u8 state, u8 marks (1 reversed, 2 weak, 4 insides present), four zero bytes, cap centre and radius (4 f64), two insides
+-- (6 f64, zero where absent), then 24n bytes of positions, 24n of normals, n of classes: 88 + 49n bytes. A state byte above 2 or a length that does not agree
+-- is refusal 1; unknown mark bits and the four bytes are passed over". Definitions only.
+use Prim.Native.Nat.{ℕ, _+_, _*_, _/_, _%_}
+use mathlib.Core.Bool.{Bool, true, false, _&&_, cond}
+use mathlib.Core.List.{List, [], _∷_, _++_}
+use lib.ListN.{length, getD, drop}
+use lib.Dec.{eqb, leb, ltb}
+use lib.Ieee.{Float, nan}
+use Rattle.numbers.specs.Choice.{if_then_else_}
+use Rattle.laws.specs.Loop.{first, flat}
+use Rattle.vec3.specs.declared.Vec3.{Vec3}
+use Rattle.vec3.specs.Vec.{origin}
+use Rattle.chord_length.specs.Chords.{squared}
+use Rattle.cap.specs.declared.Cap.{Cap}
+use Rattle.ring_cut.specs.declared.Insides.{Insides}
+use Rattle.ring_cut.specs.declared.Insides.the-variants.{Absent, Two}
+use Rattle.loop_header.specs.declared.State.{State}
+use Rattle.loop_header.specs.declared.State.the-variants.{Empty, Full, Ring}
+use Rattle.loop_header.specs.declared.Header.{Header}
+use Rattle.loop_header.specs.Loops as L
+use Rattle.wire.specs.Wire.{u16Of, floatOf, vecOf, bytes2, floatBytes, vecBytes}
+
+-- ---- the header as it is read
+abbrev pub countAt : List ℕ → ℕ
+countAt s = u16Of s 0
+
+abbrev pub stateByte : List ℕ → ℕ
+stateByte s = getD s 2 0
+
+abbrev pub marksAt : List ℕ → ℕ
+marksAt s = getD s 3 0
+
+unfoldable pub stateOf : ℕ → State
+stateOf code = if eqb code 0 then Empty else (if eqb code 1 then Full else Ring)
+
+-- of a mark, which is a power of two
+abbrev pub marked : ℕ → ℕ → Bool
+marked marks mark = eqb (marks / mark % 2) 1
+
+abbrev pub capAt : List ℕ → Cap
+capAt s = record { centre = vecOf s 8; radius = squared (floatOf s 32) }
+
+-- "Mark 4 says that insides are there: they are judged and used whatever the count and state. Without it bytes 40 to 87 are neither judged nor used"
+unfoldable pub insidesAt : List ℕ → Insides
+insidesAt s = if marked (marksAt s) 4 then Two (vecOf s 40) (vecOf s 64) else Absent
+
+abbrev pub headerAt : List ℕ → Header
+headerAt s = record {
+  count = countAt s;
+  state = stateOf (stateByte s);
+  cap = capAt s;
+  insides = insidesAt s;
+  reversed = marked (marksAt s) 1;
+  weak = marked (marksAt s) 2;
+}
+
+-- ---- the rest of a loop
+abbrev pub floatBlock : List ℕ → ℕ → ℕ → List Float
+floatBlock s at i = floatOf s (at + 8 * i) ∷ []
+
+-- n floats from a place on
+unfoldable pub floatsAt : List ℕ → ℕ → ℕ → List Float
+floatsAt s at n = flat (floatBlock s at) n 0
+
+abbrev pub positionsAt : List ℕ → List Float
+positionsAt s = floatsAt s 88 (3 * countAt s)
+
+abbrev pub normalsAt : List ℕ → List Float
+normalsAt s = floatsAt s (88 + 24 * countAt s) (3 * countAt s)
+
+abbrev pub classesAt : List ℕ → List ℕ
+classesAt s = drop (88 + 48 * countAt s) s
+
+abbrev pub numberBlock : List ℕ → ℕ → List ℕ
+numberBlock s i = u16Of s (2 * i) ∷ []
+
+-- n numbers of two bytes each
+unfoldable pub numbersAt : List ℕ → ℕ → List ℕ
+numbersAt s n = flat (numberBlock s) n 0
+
+-- ---- refusal 1 of bytes, ahead of what the loop itself is refused for
+unfoldable pub stateFault : List ℕ → ℕ
+stateFault s = cond (ltb 2 (stateByte s)) 1 0
+
+-- a slice that has to have a length
+unfoldable pub sizeFault : ℕ → ℕ → ℕ
+sizeFault size n = cond (eqb size n) 0 1
+
+-- "an `_f64` header to be read that is not 88"
+unfoldable pub headerFault : List ℕ → ℕ
+headerFault s = first (sizeFault (length s) 88) (stateFault s)
+
+unfoldable pub frameFault : List ℕ → ℕ
+frameFault s = first (sizeFault (length s) (88 + 49 * countAt s)) (stateFault s)
+
+-- ---- what cannot be copied into work arrays: a count above 512 is 2, or 1 where it does not fit its state
+abbrev pub largeFault : State → ℕ
+largeFault Empty = 1
+largeFault Full = 1
+largeFault Ring = 2
+
+unfoldable pub manyFault : List ℕ → ℕ
+manyFault s = cond (ltb 512 (countAt s)) (largeFault (stateOf (stateByte s))) 0
+
+unfoldable pub copyFault : List ℕ → ℕ
+copyFault s = first (frameFault s) (manyFault s)
+
+-- ---- the bytes of a loop
+abbrev pub stateCode : State → ℕ
+stateCode = L.stateCode
+
+unfoldable pub markIf : Bool → ℕ → ℕ
+markIf b mark = cond b mark 0
+
+abbrev pub areThere : Insides → Bool
+areThere Absent = false
+areThere (Two a b) = true
+
+abbrev pub firstInside : Insides → Vec3
+firstInside Absent = origin
+firstInside (Two a b) = a
+
+abbrev pub secondInside : Insides → Vec3
+secondInside Absent = origin
+secondInside (Two a b) = b
+
+abbrev pub marksOf : Header → ℕ
+marksOf h = markIf (h .reversed) 1 + markIf (h .weak) 2 + markIf (areThere (h .insides)) 4
+
+abbrev pub frontBytes : ℕ → ℕ → ℕ → List ℕ
+frontBytes count code marks = bytes2 count ++ (code ∷ marks ∷ 0 ∷ 0 ∷ 0 ∷ 0 ∷ [])
+
+abbrev pub capBytes : Cap → List ℕ
+capBytes c = vecBytes (c .centre) ++ floatBytes (c .radius .0)
+
+abbrev pub insidesBytes : Insides → List ℕ
+insidesBytes i = vecBytes (firstInside i) ++ vecBytes (secondInside i)
+
+unfoldable pub headerBytes : Header → List ℕ
+headerBytes h = frontBytes (h .count) (stateCode (h .state)) (marksOf h) ++ capBytes (h .cap) ++ insidesBytes (h .insides)
+
+abbrev pub floatBytesAt : List Float → ℕ → List ℕ
+floatBytesAt l i = floatBytes (getD l i nan)
+
+unfoldable pub floatsBytes : List Float → List ℕ
+floatsBytes l = flat (floatBytesAt l) (length l) 0
+
+abbrev pub numberBytesAt : List ℕ → ℕ → List ℕ
+numberBytesAt l i = bytes2 (getD l i 0)
+
+unfoldable pub numbersBytes : List ℕ → List ℕ
+numbersBytes l = flat (numberBytesAt l) (length l) 0

@@ -1,0 +1,299 @@
+// A loop in bytes: 88 of header, then its positions, its normals and its classes. Read from lent bytes and written into them here, and nowhere else.
+ghost use mathlib.Core.Path.{_≡_};
+ghost use mathlib.Core.List.{[], _∷_};
+ghost use Prim.Native.Nat.{_+_, _*_, _≤_, _<_};
+ghost use lib.ListN.{length};
+ghost use lib.Seq.{sets};
+ghost use Rattle.bytes_loop.specs.Left.{refusalOf};
+ghost use Rattle.bytes_loop.specs.Layout as F;
+use cap::Cap;
+use chord_length::ChordLength;
+use loop_header::Header;
+use loop_header::State;
+use ring_cut::Insides;
+use vec3::Vec3;
+
+// A refusal as it is answered.
+pub fn refusal(f: u8) -> u32
+    ensures { λ r. ⌜ r ≡ refusalOf f ⌝ }
+{
+    65536 + f as u32
+}
+
+fn state_of(code: u8) -> State
+    ensures { λ r. ⌜ r ≡ F.stateOf code ⌝ }
+{
+    if code == 0 {
+        return State::Empty;
+    }
+    if code == 1 {
+        return State::Full;
+    }
+    State::Ring
+}
+
+// Whether a mark is among the marks: 1 reversed, 2 weak, 4 insides present.
+fn has_mark(marks: u8, mark: u8) -> bool
+    requires { ⌜ 0 < mark ⌝ }
+    ensures { λ r. ⌜ r ≡ F.marked marks mark ⌝ }
+{
+    marks / mark % 2 == 1
+}
+
+fn cap_at(s: &[u8]) -> Cap
+    requires { ⌜ 88 ≤ length (now s) ⌝ }
+    ensures { λ r. ⌜ r ≡ F.capAt (now (s .entry)) ⌝ }
+{
+    let centre = wire::vec_at(s, 8);
+    let radius = ChordLength(wire::float_at(s, 32));
+    Cap { centre, radius }
+}
+
+// The insides, by mark 4 alone: without it their bytes are not read.
+fn insides_at(s: &[u8]) -> Insides
+    requires { ⌜ 88 ≤ length (now s) ⌝ }
+    ensures { λ r. ⌜ r ≡ F.insidesAt (now (s .entry)) ⌝ }
+{
+    if has_mark(s[3], 4) {
+        Insides::Two(wire::vec_at(s, 40), wire::vec_at(s, 64))
+    } else {
+        Insides::Absent
+    }
+}
+
+pub fn count_at(s: &[u8]) -> usize
+    requires { ⌜ 88 ≤ length (now s) ⌝ }
+    ensures { λ r. ⌜ r ≡ F.countAt (now (s .entry)) ⌝ }
+    ensures { λ r. ⌜ r < 65536 ⌝ }
+{
+    wire::u16_at(s, 0) as usize
+}
+
+// The header in the first 88 bytes.
+pub fn header_at(s: &[u8]) -> Header
+    requires { ⌜ 88 ≤ length (now s) ⌝ }
+    ensures { λ r. ⌜ r ≡ F.headerAt (now (s .entry)) ⌝ }
+{
+    let count = count_at(s);
+    let state = state_of(s[2]);
+    let cap = cap_at(s);
+    let insides = insides_at(s);
+    let reversed = has_mark(s[3], 1);
+    let weak = has_mark(s[3], 2);
+    Header {
+        count,
+        state,
+        cap,
+        insides,
+        reversed,
+        weak,
+    }
+}
+
+// Refusal 1 of a header that stands alone: its length, and its state.
+pub fn header_fault(s: &[u8]) -> u8
+    ensures { λ r. ⌜ r ≡ F.headerFault (now (s .entry)) ⌝ }
+{
+    if s.len() != 88 {
+        return 1;
+    }
+    if s[2] > 2 { 1 } else { 0 }
+}
+
+// Refusal 1 of a loop in bytes: its length, and its state.
+fn frame_fault(s: &[u8]) -> u8
+    ensures { λ r. ⌜ r ≡ F.frameFault (now (s .entry)) ⌝ }
+{
+    if s.len() < 88 {
+        return 1;
+    }
+    if s.len() != 88 + 49 * count_at(s) {
+        return 1;
+    }
+    if s[2] > 2 { 1 } else { 0 }
+}
+
+// What a count above 512 is refused for: 1 where it does not fit its state, which comes first.
+fn large_fault(state: State) -> u8
+    ensures { λ r. ⌜ r ≡ F.largeFault state ⌝ }
+{
+    match state {
+        State::Empty => 1,
+        State::Full => 1,
+        State::Ring => 2,
+    }
+}
+
+fn many_fault(s: &[u8]) -> u8
+    requires { ⌜ 88 ≤ length (now s) ⌝ }
+    ensures { λ r. ⌜ r ≡ F.manyFault (now (s .entry)) ⌝ }
+{
+    if count_at(s) > 512 {
+        return large_fault(state_of(s[2]));
+    }
+    0
+}
+
+// What keeps a loop in bytes from being copied into work arrays.
+pub fn copy_fault(s: &[u8]) -> u8
+    ensures { λ r. ⌜ r ≡ F.copyFault (now (s .entry)) ⌝ }
+{
+    let f = frame_fault(s);
+    if f != 0 {
+        return f;
+    }
+    many_fault(s)
+}
+
+// The floats from a place on, as many as there is room for.
+pub fn read_floats(s: &[u8], at: usize, out: &mut [f64])
+    requires { ⌜ at + 8 * length (now out) ≤ length (now s) ⌝ }
+    ensures { λ _. ⌜ now (out .exit) ≡ F.floatsAt (now (s .entry)) at (length (now (out .entry))) ⌝ }
+{
+    for i in 0..out.len() {
+        out[i] = wire::float_at(s, at + 8 * i);
+    }
+}
+
+// The numbers of two bytes each, as many as there is room for.
+pub fn read_numbers(s: &[u8], out: &mut [u16])
+    requires { ⌜ 2 * length (now out) ≤ length (now s) ⌝ }
+    ensures { λ _. ⌜ now (out .exit) ≡ F.numbersAt (now (s .entry)) (length (now (out .entry))) ⌝ }
+{
+    for i in 0..out.len() {
+        out[i] = wire::u16_at(s, 2 * i) as u16;
+    }
+}
+
+fn state_code(state: State) -> u8
+    ensures { λ r. ⌜ r ≡ F.stateCode state ⌝ }
+{
+    match state {
+        State::Empty => 0,
+        State::Full => 1,
+        State::Ring => 2,
+    }
+}
+
+fn mark_if(b: bool, mark: u8) -> u8
+    ensures { λ r. ⌜ r ≡ F.markIf b mark ⌝ }
+    ensures { λ r. ⌜ r ≤ mark ⌝ }
+{
+    if b { mark } else { 0 }
+}
+
+fn are_there(i: Insides) -> bool
+    ensures { λ r. ⌜ r ≡ F.areThere i ⌝ }
+{
+    match i {
+        Insides::Absent => false,
+        Insides::Two(_, _) => true,
+    }
+}
+
+fn first_inside(i: Insides) -> Vec3
+    ensures { λ r. ⌜ r ≡ F.firstInside i ⌝ }
+{
+    match i {
+        Insides::Absent => Vec3::ZERO,
+        Insides::Two(a, _) => a,
+    }
+}
+
+fn second_inside(i: Insides) -> Vec3
+    ensures { λ r. ⌜ r ≡ F.secondInside i ⌝ }
+{
+    match i {
+        Insides::Absent => Vec3::ZERO,
+        Insides::Two(_, b) => b,
+    }
+}
+
+fn marks_of(h: Header) -> u8
+    ensures { λ r. ⌜ r ≡ F.marksOf h ⌝ }
+{
+    let insides = h.insides;
+    let a = mark_if(h.reversed, 1);
+    let b = mark_if(h.weak, 2);
+    a + b + mark_if(are_there(insides), 4)
+}
+
+fn put_pair(out: &mut [u8], at: usize, a: u8, b: u8)
+    requires { ⌜ at + 2 ≤ length (now out) ⌝ }
+    ensures { λ _. ⌜ now (out .exit) ≡ sets (now (out .entry)) at (a ∷ b ∷ []) ⌝ }
+{
+    out[at] = a;
+    out[at + 1] = b;
+}
+
+// Count, state, marks and four zero bytes.
+fn put_front(out: &mut [u8], count: usize, code: u8, marks: u8)
+    requires { ⌜ 88 ≤ length (now out) ⌝ }
+    ensures { λ _. ⌜ now (out .exit) ≡ sets (now (out .entry)) 0 (F.frontBytes count code marks) ⌝ }
+{
+    wire::put_u16(out, 0, count as u64);
+    put_pair(out, 2, code, marks);
+    put_pair(out, 4, 0, 0);
+    put_pair(out, 6, 0, 0);
+}
+
+fn put_cap(out: &mut [u8], c: Cap)
+    requires { ⌜ 88 ≤ length (now out) ⌝ }
+    ensures { λ _. ⌜ now (out .exit) ≡ sets (now (out .entry)) 8 (F.capBytes c) ⌝ }
+{
+    wire::put_vec(out, 8, c.centre);
+    wire::put_float(out, 32, c.radius.0);
+}
+
+fn put_insides(out: &mut [u8], i: Insides)
+    requires { ⌜ 88 ≤ length (now out) ⌝ }
+    ensures { λ _. ⌜ now (out .exit) ≡ sets (now (out .entry)) 40 (F.insidesBytes i) ⌝ }
+{
+    wire::put_vec(out, 40, first_inside(i));
+    wire::put_vec(out, 64, second_inside(i));
+}
+
+// A header's 88 bytes.
+pub fn put_header(out: &mut [u8], h: Header)
+    requires { ⌜ 88 ≤ length (now out) ⌝ }
+    ensures { λ _. ⌜ now (out .exit) ≡ sets (now (out .entry)) 0 (F.headerBytes h) ⌝ }
+{
+    let state = h.state;
+    let insides = h.insides;
+    put_front(out, h.count, state_code(state), marks_of(h));
+    put_cap(out, h.cap);
+    put_insides(out, insides);
+}
+
+pub fn put_floats(out: &mut [u8], at: usize, from: &[f64])
+    requires { ⌜ at + 8 * length (now from) ≤ length (now out) ⌝ }
+    ensures { λ _. ⌜ now (out .exit) ≡ sets (now (out .entry)) at (F.floatsBytes (now (from .entry))) ⌝ }
+{
+    for i in 0..from.len() {
+        wire::put_float(out, at + 8 * i, from[i]);
+    }
+}
+
+pub fn put_bytes(out: &mut [u8], at: usize, from: &[u8])
+    requires { ⌜ at + length (now from) ≤ length (now out) ⌝ }
+    ensures { λ _. ⌜ now (out .exit) ≡ sets (now (out .entry)) at (now (from .entry)) ⌝ }
+{
+    for i in 0..from.len() {
+        out[at + i] = from[i];
+    }
+}
+
+fn wide(n: u16) -> u64
+    ensures { λ r. ⌜ r ≡ n ⌝ }
+{
+    n as u64
+}
+
+pub fn put_numbers(out: &mut [u8], from: &[u16])
+    requires { ⌜ 2 * length (now from) ≤ length (now out) ⌝ }
+    ensures { λ _. ⌜ now (out .exit) ≡ sets (now (out .entry)) 0 (F.numbersBytes (now (from .entry))) ⌝ }
+{
+    for i in 0..from.len() {
+        wire::put_u16(out, 2 * i, wide(from[i]));
+    }
+}

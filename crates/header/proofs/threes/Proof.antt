@@ -1,9 +1,0 @@
-use Rattle.header.proofs.Shapes.{in-threes}
-use Rattle.header.proofs.threes.Statement.{statement}
-use Rattle.header.proofs.threes.Tie as tie
-
-pub threes-spec : {M : Type 1} → statement M
-threes-spec =
-    tie.close
-    (tie.spec
-    (λ c. in-threes (c .args .size) (c .args .count)))

@@ -1,0 +1,159 @@
+-- What building a loop answers, and what it leaves in the slices that it was lent. Definitions only.
+use Prim.Native.Nat.{ℕ, zero, suc, _*_, _/_, _%_, _≤_}
+use mathlib.Core.Path.{_≡_}
+use mathlib.Core.Bool.{Bool, true, false, _&&_, _||_, cond}
+use mathlib.Core.List.{List, _++_}
+use lib.ListN.{length, drop}
+use lib.Dec.{ltb, leb, eqb}
+use lib.Ieee.{Float}
+use Rattle.laws.specs.Loop.{first}
+use Rattle.angle.specs.declared.Angle.{Angle}
+use Rattle.angle.specs.Angles.{weak}
+use Rattle.cap.specs.Caps.{boundingCap}
+use Rattle.judge.specs.Judge.{positionsFault}
+use Rattle.ring_turns.specs.Turns.{edgeNormals, turnSum}
+use Rattle.ring_corners.specs.Corners.{opened, reversal, ringOf, normalsOf, classesOf, allBoth}
+use Rattle.ring_cut.specs.declared.Insides.{Insides}
+use Rattle.ring_cut.specs.declared.Insides.the-variants.{Absent, Two}
+use Rattle.ring_insides.specs.Insides.{insidesOf}
+use Rattle.loop_header.specs.declared.Header.{Header}
+use Rattle.loop_header.specs.declared.State.the-variants.{Ring}
+use Rattle.loop_header.specs.Loops.{emptyHeader, fullHeader}
+use Rattle.loop_build.specs.declared.Built.{Built}
+use Rattle.loop_build.specs.declared.Built.the-variants.{Refused, Loop}
+
+-- 1: "not in threes"; 2: "more than 512 positions"; then 3 and 4 position by position
+unfoldable pub listFault : List Float → ℕ
+listFault l =
+    first (cond (eqb (length l % 3) 0) 0 1)
+    (first (cond (ltb 512 (length l / 3)) 2 0) (positionsFault l (length l / 3)))
+
+-- 5: "judged by the opened count whenever that is three or more", for positions, normals and classes each
+unfoldable pub roomFault : ℕ → ℕ → ℕ → ℕ → ℕ
+roomFault n positions normals classes = cond (leb 3 n && ((ltb positions (3 * n) || ltb normals (3 * n)) || ltb classes n)) 5 0
+
+-- how many positions are left of a list when it is opened
+abbrev pub openedCount : List Float → ℕ
+openedCount l = opened l (length l / 3)
+
+unfoldable pub refusal : List Float → List Float → List Float → List ℕ → ℕ
+refusal l ps ns cs = first (listFault l) (roomFault (openedCount l) (length ps) (length ns) (length cs))
+
+-- what is worked out ahead of any writing
+pub record Prepared : Type 0 where
+  pub sum : Angle
+  pub edges : List Float
+  pub classes : List ℕ
+
+abbrev pub prepared : List Float → ℕ → Prepared
+prepared l n = record { sum = turnSum l n; edges = edgeNormals l n; classes = classesOf l n (reversal l n) }
+
+-- a triangle needs no insides
+unfoldable pub insidesFor : List Float → List ℕ → Insides
+insidesFor ps cs = cond (ltb 3 (length cs)) (insidesOf ps cs) Absent
+
+-- a ring's header. "The cap: its centre comes from the opened list summed in the order given, before any reversal"
+unfoldable pub ringHeader : List Float → ℕ → Bool → Header
+ringHeader l n reversed = record {
+  count = n;
+  state = Ring;
+  cap = boundingCap l n;
+  insides = insidesFor (ringOf l n reversed) (classesOf l n reversed);
+  reversed = reversed;
+  weak = weak (turnSum l n);
+}
+
+-- what the writing of a ring is handed: what was prepared, and room
+pub record Ready (l : List Float) (n : ℕ) (reversed : Bool) (edges : List Float) (codes : List ℕ) (positions normals classes : ℕ) : Type 0 where
+  pub least : 3 ≤ n
+  pub most : n ≤ 512
+  pub listed : 3 * n ≤ length l
+  pub prepared-edges : edges ≡ edgeNormals l n
+  pub prepared-codes : codes ≡ classesOf l n reversed
+  pub positions-room : 3 * n ≤ positions
+  pub normals-room : 3 * n ≤ normals
+  pub classes-room : n ≤ classes
+
+-- what the making of a loop is lent: exact work arrays, and room
+pub record Lent (l : List Float) (n edges codes positions normals classes : ℕ) : Type 0 where
+  pub least : 3 ≤ n
+  pub most : n ≤ 512
+  pub listed : 3 * n ≤ length l
+  pub edges-size : edges ≡ 3 * n
+  pub codes-size : codes ≡ n
+  pub positions-room : 3 * n ≤ positions
+  pub normals-room : 3 * n ≤ normals
+  pub classes-room : n ≤ classes
+
+-- a ring that is written: its insides, and the three slices. "Bytes past a result stay"
+pub record Written : Type 0 where
+  pub insides : Insides
+  pub positions : List Float
+  pub normals : List Float
+  pub classes : List ℕ
+
+abbrev pub written : List Float → ℕ → Bool → List Float → List Float → List ℕ → Written
+written l n reversed ps ns cs = record {
+  insides = insidesFor (ringOf l n reversed) (classesOf l n reversed);
+  positions = ringOf l n reversed ++ drop (3 * n) ps;
+  normals = normalsOf l n reversed ++ drop (3 * n) ns;
+  classes = classesOf l n reversed ++ drop n cs;
+}
+
+-- a header, and the three slices
+pub record Made : Type 0 where
+  pub header : Header
+  pub positions : List Float
+  pub normals : List Float
+  pub classes : List ℕ
+
+abbrev pub ringMade : List Float → ℕ → Bool → List Float → List Float → List ℕ → Made
+ringMade l n reversed ps ns cs = record {
+  header = ringHeader l n reversed;
+  positions = ringOf l n reversed ++ drop (3 * n) ps;
+  normals = normalsOf l n reversed ++ drop (3 * n) ns;
+  classes = classesOf l n reversed ++ drop n cs;
+}
+
+-- "All both: FULL", and the slices as they were
+abbrev pub madeIf : Bool → List Float → ℕ → Bool → List Float → List Float → List ℕ → Made
+madeIf true l n reversed ps ns cs = record { header = fullHeader (weak (turnSum l n)); positions = ps; normals = ns; classes = cs }
+madeIf false l n reversed ps ns cs = ringMade l n reversed ps ns cs
+
+unfoldable pub made : List Float → ℕ → List Float → List Float → List ℕ → Made
+made l n ps ns cs = madeIf (allBoth (classesOf l n (reversal l n))) l n (reversal l n) ps ns cs
+
+-- the answer by cases: the refusal's number of the paper, or the header's values
+pub data Told : Type 0 where
+  refused : ℕ → Told
+  loop : Header → Told
+
+abbrev pub told : Built → Told
+told (Refused k) = refused k
+told (Loop h) = loop h
+
+-- what a call comes to: its answer and the three slices
+pub record Out : Type 0 where
+  pub answer : Told
+  pub positions : List Float
+  pub normals : List Float
+  pub classes : List ℕ
+
+abbrev pub kept : Told → List Float → List Float → List ℕ → Out
+kept a ps ns cs = record { answer = a; positions = ps; normals = ns; classes = cs }
+
+abbrev pub outOf : Made → Out
+outOf m = record { answer = loop (m .header); positions = m .positions; normals = m .normals; classes = m .classes }
+
+-- "Fewer than three left: EMPTY"
+abbrev pub outIf : Bool → List Float → ℕ → List Float → List Float → List ℕ → Out
+outIf true l n ps ns cs = kept (loop emptyHeader) ps ns cs
+outIf false l n ps ns cs = outOf (made l n ps ns cs)
+
+-- by the refusal's number
+abbrev pub outBy : ℕ → List Float → List Float → List Float → List ℕ → Out
+outBy (suc k) l ps ns cs = kept (refused (suc k)) ps ns cs
+outBy zero l ps ns cs = outIf (ltb (openedCount l) 3) l (openedCount l) ps ns cs
+
+unfoldable pub out : List Float → List Float → List Float → List ℕ → Out
+out l ps ns cs = outBy (refusal l ps ns cs) l ps ns cs

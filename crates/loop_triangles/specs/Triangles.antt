@@ -1,0 +1,66 @@
+-- What cutting and the checker answer, and what cutting leaves in its output. Definitions only.
+use Prim.Native.Nat.{ℕ, zero, suc, _-_, _*_}
+use mathlib.Core.Bool.{Bool, true, false}
+use mathlib.Core.List.{List, _++_}
+use lib.ListN.{length, drop}
+use lib.Dec.{ltb}
+use lib.Ieee.{Float}
+use Rattle.icosahedron.specs.Table.{triples}
+use Rattle.ring_cut.specs.Cut as C
+use Rattle.ring_check.specs.Accepted.{accepted}
+use Rattle.loop_header.specs.declared.State.{State}
+use Rattle.loop_header.specs.declared.State.the-variants.{Empty, Full, Ring}
+use Rattle.loop_header.specs.declared.Header.{Header}
+use Rattle.loop_header.specs.Loops.{cutFault, checkFault}
+use Rattle.loop_ask.specs.Answers.{Told, refused, answer, boolTold, judged}
+use Rattle.loop_triangles.specs.declared.Cut.{Cut}
+use Rattle.loop_triangles.specs.declared.Cut.the-variants.{Refused, Triangles}
+
+-- the paper's number of the refusal, or the number of triples
+abbrev pub toldCut : Cut → Told
+toldCut (Refused k) = refused k
+toldCut (Triangles n) = answer n
+
+-- an answer, and the output at exit
+pub record Out : Type 0 where
+  pub answer : Told
+  pub triangles : List ℕ
+
+abbrev pub out : Told → List ℕ → Out
+out t l = record { answer = t; triangles = l }
+
+-- 5: "an output is shorter than the result needs"
+abbrev pub roomy : Bool → List ℕ → Out → Out
+roomy true tris o = out (refused 5) tris
+roomy false tris o = o
+
+unfoldable pub fullOut : List ℕ → Out
+fullOut tris = roomy (ltb (length tris) 60) tris (out (answer 20) (triples ++ drop 60 tris))
+
+-- n - 2 triples, or 8 where "a ring above three it reaches has no eligible ear"
+abbrev pub cutTold : Bool → ℕ → Told
+cutTold true n = answer n
+cutTold false n = refused 8
+
+abbrev pub laid : C.Out → ℕ → Out
+laid o n = out (cutTold (o .answer) n) (o .out)
+
+-- "for a ring's triangles by n-2, before 8"
+unfoldable pub ringOut : List Float → List ℕ → List ℕ → Out
+ringOut ps cs tris = roomy (ltb (length tris) (3 * (length cs - 2))) tris (laid (C.outOf ps cs tris) (length cs - 2))
+
+abbrev pub stateOut : State → List Float → List ℕ → List ℕ → Out
+stateOut Empty ps cs tris = out (answer 0) tris
+stateOut Full ps cs tris = fullOut tris
+stateOut Ring ps cs tris = ringOut ps cs tris
+
+abbrev pub outBy : ℕ → List ℕ → Out → Out
+outBy zero tris o = o
+outBy (suc k) tris o = out (refused (suc k)) tris
+
+unfoldable pub cutOut : Header → List Float → List ℕ → List ℕ → Out
+cutOut h ps cs tris = outBy (cutFault h ps cs) tris (stateOut (h .state) ps cs tris)
+
+-- the checker: yes exactly for accepted lists
+unfoldable pub acceptsAnswer : Header → List Float → List ℕ → List ℕ → Told
+acceptsAnswer h ps cs tris = judged (checkFault h ps cs (length tris)) (boolTold (accepted ps cs tris))

@@ -1,0 +1,55 @@
+-- What it is for a list of triples to be accepted: n - 2 of them, each but the last an eligible ear of the ring then left, in the order previous, this, next,
+-- and the last that ring's three, from its first. Document 01: "The checker says no, without refusing, for a wrong number of triples, a rotated triple or a
+-- number outside the ring." Definitions only.
+use Prim.Native.Nat.{ℕ, zero, suc, _-_, _*_}
+use mathlib.Core.Bool.{Bool, true, false, _&&_}
+use mathlib.Core.List.{List, [], _∷_}
+use lib.ListN.{length, getD}
+use lib.Dec.{eqb, ltb}
+use lib.Ieee.{Float}
+use Rattle.laws.specs.Loop.{firstAt}
+use Rattle.ring_theory.specs.Ring.{prev, next}
+use Rattle.ring_ears.specs.Ears.{ear, Remaining, cutAt}
+use Rattle.ring_cut.specs.Cut.{wholeRing}
+
+-- the place of the number b, or the number of places if it is not on the ring left
+abbrev pub isNumber : List ℕ → ℕ → ℕ → Bool
+isNumber ids b i = eqb (getD ids i 0) b
+
+abbrev pub placeOf : List ℕ → ℕ → ℕ
+placeOf ids b = firstAt (isNumber ids b) (length ids) 0
+
+-- a stands before place i, and c after it
+abbrev pub between : List ℕ → ℕ → ℕ → ℕ → Bool
+between ids i a c = eqb (getD ids (prev ids i) 0) a && eqb (getD ids (next ids i) 0) c
+
+-- place i is one of the ring left, between a and c, and an eligible ear
+unfoldable pub fitsAt : List Float → Remaining → ℕ → ℕ → ℕ → Bool
+fitsAt ps s i a c = (ltb i (length (s .ids)) && between (s .ids) i a c) && ear ps (s .ids) (s .classes) i
+
+-- on from place i, where the triple fits
+abbrev pub onward : Bool → ℕ → (ℕ → Bool) → Bool
+onward true i on = on i
+onward false i on = false
+
+unfoldable pub sameNumbers : List ℕ → List ℕ → Bool
+sameNumbers [] [] = true
+sameNumbers [] (b ∷ m) = false
+sameNumbers (a ∷ l) [] = false
+sameNumbers (a ∷ l) (b ∷ m) = eqb a b && sameNumbers l m
+
+-- k cuts along the list, and then the ring left
+unfoldable pub accepts : List Float → ℕ → Remaining → List ℕ → Bool
+accepts ps zero s tris = sameNumbers (s .ids) tris
+accepts ps (suc k) s [] = false
+accepts ps (suc k) s (a ∷ []) = false
+accepts ps (suc k) s (a ∷ b ∷ []) = false
+accepts ps (suc k) s (a ∷ b ∷ c ∷ rest) = onward (fitsAt ps s (placeOf (s .ids) b) a c) (placeOf (s .ids) b) (λ i. accepts ps k (cutAt ps s i) rest)
+
+-- of what is left of a ring: three are left after m - 3 cuts
+abbrev pub acceptsFrom : List Float → Remaining → List ℕ → Bool
+acceptsFrom ps s tris = accepts ps (length (s .ids) - 3) s tris
+
+-- a list for the whole ring
+unfoldable pub accepted : List Float → List ℕ → List ℕ → Bool
+accepted ps classes tris = eqb (length tris) (3 * (length classes - 2)) && acceptsFrom ps (wholeRing classes) tris

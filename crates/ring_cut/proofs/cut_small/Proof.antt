@@ -1,0 +1,24 @@
+use native.Mathlib.Omega.{arith}
+use mathlib.Core.Path.{sym}
+use Rattle.laws.proofs.Copies.{first-of}
+use borrow.Author.Needs.{needs}
+use Rattle.ring_cut.proofs.cut_small.Statement.{statement}
+use Rattle.ring_cut.proofs.cut_small.Tie as tie
+
+pub cut-small-spec : {M : Type 1} → statement M
+cut-small-spec =
+    tie.close
+    (tie.spec
+    (λ c. search needs)
+    (λ c. search needs)
+    (λ c. search needs)
+    (λ c. sym (first-of 16 0 (c .before .before .before .before .pre .2)))
+    (λ c. search needs)
+    (λ c. sym (first-of 16 0 (c .before .before .before .before .before .pre .2)))
+    (λ c. search needs)
+    (λ c. sym (first-of 16 0 (c .before .before .before .before .before .before .pre .2)))
+    (λ c. search needs)
+    (λ c. sym (first-of 42 0 (omega (arith, c .before .before .before .before .before .before .before .pre .2))))
+    (λ c κs. let p = c .before .before .before .before .before .before .before .before .pre in let n = first-of 16 0 (p .2) in (record { ring = p .0; ids-size = n; work-size = n }, n, first-of 42 0 (omega (arith, p .2)), p .1))
+    (λ c. search needs)
+    (λ c. search needs))

@@ -1,0 +1,32 @@
+use native.Mathlib.Omega.{arith}
+use borrow.Author.Needs.{needs}
+use Prim.Native.Nat.{_-_}
+use mathlib.Core.Path.{ap}
+use Rattle.ring_place.specs.declared.Crossings.{Crossings}
+use Rattle.laws.specs.Loop.{turns}
+use Rattle.laws.proofs.Loops.{Turn, turn, turn-end}
+use Rattle.laws.proofs.Parts.{turn-part}
+use Rattle.ring_place.specs.Places.{pass, start, crossedEvenly}
+use Rattle.ring_place.proofs.crossed_evenly.Statement.{statement}
+use Rattle.ring_place.proofs.crossed_evenly.Tie as tie
+
+abbrev Inv-loop : tie.InvT-loop
+Inv-loop arc positions normals n s₀ from₀ s from = Turn (pass arc positions normals n) n from s (turns (pass arc positions normals n) n 0 start)
+
+abbrev μ-loop : tie.MeasureT-loop
+μ-loop arc positions normals n s₀ from₀ s from = n - from
+
+pub crossed-evenly-spec : {M : Type 1} → statement M
+unfolding crossedEvenly
+crossed-evenly-spec =
+    tie.close
+    (tie.spec
+    Inv-loop μ-loop
+    (λ c κs. tt)
+    (λ c. turn (simp (c .new .ensures)))
+    (λ c κs. (omega arith, omega arith))
+    (λ c κs. let e = c .block-end .ensures in (omega (arith, e .1), omega (arith, e .2), e .3, omega arith, omega arith, omega arith))
+    (λ c. omega (arith, c .before .block-end .ensures .1))
+    (λ c. let e = c .before .block-end .ensures in
+    turn-part (c .before .before .before .loop .inv) (c .pass-block .ensures) (omega (arith, e .1)) (e .3))
+    (λ c. ap (λ (s : Crossings). s .even) (turn-end (c .before .loop .inv) (omega arith))))

@@ -1,0 +1,49 @@
+-- The text of a scene's lines, as bytes. Document 01, "The scene program". Definitions only.
+use Prim.Native.Nat.{ℕ}
+use mathlib.Core.List.{List, _++_}
+use Rattle.loop_header.specs.declared.Header.{Header}
+use Rattle.loop_header.specs.Loops.{mute}
+use Rattle.scene_words.specs.Bytes.{bytes}
+use Rattle.scene_words.specs.Words.{decimal, stateWord, turnedWord, sureWord, placeWord, relationWord}
+use Rattle.scene_lines.specs.declared.Line.{Line}
+use Rattle.scene_lines.specs.declared.Line.the-variants.{Area, Place, Pair, End, Refused}
+
+abbrev pub marksWords : Header → List ℕ
+marksWords h = stateWord (h .state) (mute h) ++ turnedWord (h .reversed) ++ sureWord (h .weak)
+
+-- "number, ring count, state, `kept` or `reversed`, `steady` or `weak`, triangle count"
+unfoldable pub areaLine : ℕ → Header → ℕ → List ℕ
+areaLine number h triangles =
+    bytes "area " ++ decimal number ++ bytes " " ++ decimal (h .count) ++ marksWords h ++ decimal triangles ++ bytes "\n"
+
+-- "area, then `inside`, `outside` or `mute`"
+unfoldable pub placeLine : ℕ → ℕ → List ℕ
+placeLine number answer = bytes "place " ++ decimal number ++ placeWord answer
+
+-- "both numbers and the relation"
+unfoldable pub pairLine : ℕ → ℕ → ℕ → List ℕ
+pairLine first second relation = bytes "pair " ++ decimal first ++ bytes " " ++ decimal second ++ relationWord relation
+
+-- "`end` and the number of records"
+unfoldable pub endLine : ℕ → List ℕ
+endLine records = bytes "end " ++ decimal records ++ bytes "\n"
+
+-- "`refused`, the number, `at`, the record's byte offset"
+unfoldable pub refusedLine : ℕ → ℕ → List ℕ
+refusedLine number offset = bytes "refused " ++ decimal number ++ bytes " at " ++ decimal offset ++ bytes "\n"
+
+-- a line by its kind
+abbrev pub lineText : Line → List ℕ
+lineText (Area number h triangles) = areaLine number h triangles
+lineText (Place number answer) = placeLine number answer
+lineText (Pair first second relation) = pairLine first second relation
+lineText (End records) = endLine records
+lineText (Refused number offset) = refusedLine number offset
+
+-- the most bytes that a line takes
+unfoldable pub roomOf : Line → ℕ
+roomOf (Area number h triangles) = 45
+roomOf (Place number answer) = 20
+roomOf (Pair first second relation) = 30
+roomOf (End records) = 10
+roomOf (Refused number offset) = 23

@@ -1,0 +1,118 @@
+// The records of a scene, read out of its bytes: each is a u32 body length, a u16 kind and the body, all little-endian.
+ghost use mathlib.Core.Path.{_≡_};
+ghost use Prim.Native.Nat.{_+_, _*_, _≤_, _<_};
+ghost use lib.ListN.{length};
+ghost use Rattle.scene_records.specs.Records as R;
+
+// What a record is refused for. The scene prints each as refusal 10.
+pub enum Fault {
+    CutShort,
+    UnknownKind,
+    WrongLength,
+    NoNumber,
+    Repeated,
+    NotMet,
+    ManyAreas,
+    ManyPositions,
+}
+
+// What stands at an offset: a record, with its area numbers and how many positions an area has; the end; or a fault and its place.
+pub enum Read {
+    End,
+    Bad(Fault, usize),
+    Area(usize, usize),
+    Place(usize),
+    Pair(usize, usize),
+}
+
+// The number at a place, as wide as an index.
+fn number_at(s: &[u8], at: usize) -> usize
+    requires { ⌜ at + 2 ≤ length (now s) ⌝ }
+    ensures { λ r. ⌜ r ≡ R.u16Of (now (s .entry)) at ⌝ }
+{
+    wire::u16_at(s, at) as usize
+}
+
+// A body length: near 2^32 it is only a large number.
+fn length_at(s: &[u8], at: usize) -> usize
+    requires { ⌜ at + 4 ≤ length (now s) ⌝ }
+    ensures { λ r. ⌜ r ≡ R.u32Of (now (s .entry)) at ⌝ }
+    ensures { λ r. ⌜ r < 4294967296 ⌝ }
+{
+    wire::u32_at(s, at) as usize
+}
+
+fn area_at(s: &[u8], at: usize, len: usize) -> Read
+    requires { ⌜ (length (now s) ≤ 65536) × (at + 6 + len ≤ length (now s)) ⌝ }
+    ensures { λ r. ⌜ r ≡ R.areaAt (now (s .entry)) at len ⌝ }
+{
+    if len % 24 != 2 {
+        return Read::Bad(Fault::WrongLength, at);
+    }
+    Read::Area(number_at(s, at + 6), len / 24)
+}
+
+fn place_at(s: &[u8], at: usize, len: usize) -> Read
+    requires { ⌜ (length (now s) ≤ 65536) × (at + 6 + len ≤ length (now s)) ⌝ }
+    ensures { λ r. ⌜ r ≡ R.placeAt (now (s .entry)) at len ⌝ }
+{
+    if len != 26 {
+        return Read::Bad(Fault::WrongLength, at);
+    }
+    Read::Place(number_at(s, at + 6))
+}
+
+fn pair_at(s: &[u8], at: usize, len: usize) -> Read
+    requires { ⌜ (length (now s) ≤ 65536) × (at + 6 + len ≤ length (now s)) ⌝ }
+    ensures { λ r. ⌜ r ≡ R.pairAt (now (s .entry)) at len ⌝ }
+{
+    if len != 4 {
+        return Read::Bad(Fault::WrongLength, at);
+    }
+    Read::Pair(number_at(s, at + 6), number_at(s, at + 8))
+}
+
+// A record whose bytes are all there, by its kind.
+fn kind_at(s: &[u8], at: usize, len: usize) -> Read
+    requires { ⌜ (length (now s) ≤ 65536) × (at + 6 + len ≤ length (now s)) ⌝ }
+    ensures { λ r. ⌜ r ≡ R.kindAt (now (s .entry)) at len ⌝ }
+{
+    let kind = number_at(s, at + 4);
+    if kind == 1 {
+        return area_at(s, at, len);
+    }
+    if kind == 2 {
+        return place_at(s, at, len);
+    }
+    if kind == 3 {
+        return pair_at(s, at, len);
+    }
+    Read::Bad(Fault::UnknownKind, at)
+}
+
+pub fn read_at(s: &[u8], at: usize) -> Read
+    requires { ⌜ (length (now s) ≤ 65536) × (at ≤ length (now s)) ⌝ }
+    ensures { λ r. ⌜ r ≡ R.readAt (now (s .entry)) at ⌝ }
+{
+    if s.len() <= at {
+        return Read::End;
+    }
+    if s.len() < at + 6 {
+        return Read::Bad(Fault::CutShort, at);
+    }
+    let len = length_at(s, at);
+    if s.len() < at + 6 + len {
+        return Read::Bad(Fault::CutShort, at);
+    }
+    kind_at(s, at, len)
+}
+
+// The n positions that stand from an offset on, as floats. A NaN or an infinity is read as one.
+pub fn read_positions(s: &[u8], at: usize, n: usize, list: &mut [f64])
+    requires { ⌜ (length (now s) ≤ 65536) × (at + 24 * n ≤ length (now s)) × (length (now list) ≡ 3 * n) ⌝ }
+    ensures { λ _. ⌜ now (list .exit) ≡ R.floatsAt (now (s .entry)) at n ⌝ }
+{
+    for i in 0..list.len() {
+        list[i] = wire::float_at(s, at + 8 * i);
+    }
+}

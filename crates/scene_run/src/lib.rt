@@ -1,0 +1,72 @@
+// A scene: its records taken one after the other, each answer written as a line.
+ghost use mathlib.Core.Path.{_≡_};
+ghost use Prim.Native.Nat.{_≤_};
+ghost use lib.ListN.{length};
+ghost use Rattle.scene_words.specs.Words.{Wrote};
+ghost use Rattle.scene_run.specs.Run as Sc;
+use scene_lines::Line;
+use scene_steps::Outcome;
+
+// The line of an outcome. Each fault is refusal 10 today.
+fn line_of(outcome: Outcome, records: usize, at: usize) -> Line
+    ensures { λ r. ⌜ r ≡ Sc.lineOf outcome records at ⌝ }
+{
+    match outcome {
+        Outcome::End => Line::End(records),
+        Outcome::Bad(_) => Line::Refused(10, at),
+        Outcome::Refused(k) => Line::Refused(k, at),
+        Outcome::Line(line) => line,
+    }
+}
+
+fn goes_on(outcome: Outcome) -> bool
+    ensures { λ r. ⌜ r ≡ Sc.goesOn outcome ⌝ }
+{
+    match outcome {
+        Outcome::End => false,
+        Outcome::Bad(_) => false,
+        Outcome::Refused(_) => false,
+        Outcome::Line(_) => true,
+    }
+}
+
+// The scene of at most 65,536 bytes, over a lent store.
+fn run_in(
+    s: &[u8],
+    positions: &mut [f64],
+    normals: &mut [f64],
+    classes: &mut [u8],
+    out: &mut [u8],
+) -> usize
+    requires { ⌜ Sc.Running (now s) (length (now positions)) (length (now normals)) (length (now classes)) (length (now out)) ⌝ }
+    ensures { λ r. ⌜ Wrote (now (out .entry)) 0 (Sc.linesOf (now (s .entry)) (now (positions .entry)) (now (normals .entry)) (now (classes .entry))) (now (out .exit)) r ⌝ }
+    ensures { λ r. ⌜ r ≤ 196989 ⌝ }
+{
+    let mut c = scene_notes::fresh();
+    let mut written = 0;
+    loop {
+        let r = scene_steps::step(s, c, positions, normals, classes);
+        let outcome = r.outcome;
+        written = scene_lines::put_line(out, written, line_of(outcome, c.records, c.at));
+        if !goes_on(outcome) {
+            return written;
+        }
+        c = r.next;
+    }
+}
+
+// What the scene program prints for an input, written to `out`; answers how many bytes that is. 196,989 bytes are room for any scene:
+// a line has at most three bytes for each byte of its record, an area's 21 more, of which there are 16; the last line has at most 45.
+pub fn run(s: &[u8], out: &mut [u8]) -> usize
+    requires { ⌜ 196989 ≤ length (now out) ⌝ }
+    ensures { λ r. ⌜ Wrote (now (out .entry)) 0 (Sc.sceneText (now (s .entry))) (now (out .exit)) r ⌝ }
+    ensures { λ r. ⌜ r ≤ 196989 ⌝ }
+{
+    if 65536 < s.len() {
+        return scene_lines::put_line(out, 0, Line::Refused(10, 0));
+    }
+    let mut positions = [0.0f64; 3072];
+    let mut normals = [0.0f64; 3072];
+    let mut classes = [0u8; 1024];
+    run_in(s, &mut positions, &mut normals, &mut classes, out)
+}

@@ -1,0 +1,146 @@
+-- A record's step, as the program takes it. Assumes nothing.
+use Prim.Native.Nat.{ℕ, _+_, _*_, _≤_, _<_}
+use mathlib.Core.Path.{_≡_, refl, sym, ap, _∙_}
+use mathlib.Core.Bool.{Bool, true, false, cond}
+use mathlib.Core.List.{List}
+use native.Mathlib.Numerals.{add-one}
+use native.Mathlib.Omega.{arith}
+use lib.ListN.{length, getD, length-set}
+use lib.Seq.{length-take-le, take-suc-set}
+use lib.Dec.{ltb, leb, eqb}
+use lib.Ieee.{Float}
+use borrow.Author.Tests.{lt-ltb, le-ltb, ltb-false, leb-false}
+use Rattle.vec3.specs.declared.Vec3.{Vec3}
+use Rattle.wire.specs.Wire.{vecOf}
+use Rattle.loop_header.specs.declared.Header.{Header}
+use Rattle.loop_build.specs.declared.Built.{Built}
+use Rattle.loop_build.specs.declared.Built.the-variants as Built
+use Rattle.loop_build.specs.Build as B
+use Rattle.loop_ask.specs.Answers.{Told}
+use Rattle.loop_ask.specs.Answers as Ask
+use Rattle.scene_lines.specs.declared.Line.the-variants as Line
+use Rattle.scene_records.specs.declared.Fault.{Fault}
+use Rattle.scene_records.specs.declared.Fault.the-variants.{NoNumber, Repeated, NotMet, ManyAreas, ManyPositions}
+use Rattle.scene_records.specs.Records.{floatsAt}
+use Rattle.scene_store.specs.declared.Area.{Area}
+use Rattle.scene_notes.specs.declared.Notes.{Notes}
+use Rattle.scene_notes.specs.declared.Judged.{Judged}
+use Rattle.scene_notes.specs.declared.Judged.the-variants.{Fine, Bad}
+use Rattle.scene_steps.specs.declared.Outcome.{Outcome}
+use Rattle.scene_steps.specs.declared.Outcome.the-variants as Outcome
+use Rattle.scene_steps.specs.declared.Stepped.{Stepped}
+use Rattle.scene_notes.specs.Noted.{Scene, indexOf, Kept, areasOf, view, passedNotes, Addable, areaAt, addedNotes, judgeArea}
+use Rattle.scene_notes.proofs.Tables.{met-count, Allowed, allowed}
+use Rattle.scene_store.specs.Store.{nobody, builtAt, triangleCount, placeIn, pairIn, Lies, Room}
+use Rattle.scene_steps.specs.Steps.{Step, faulty, refused, areaMade, areaStep, placeTold, placeStep, pairTold, pairStep, Good, outcomeStep, toldStep, placeOutcome, pairOutcome, Sized, Ready}
+use Rattle.scene_store.proofs.Counts.{built-count}
+
+-- an area that was met lies in the store
+pub lies : {s : List ℕ} {w : Scene} → Good s w → Sized (length (w .positions)) (length (w .normals)) (length (w .classes)) → (i : ℕ) → i < length (w .areas) → Lies (getD (w .areas) i nobody) (w .positions) (w .normals) (w .classes)
+lies g z i h = record {
+  ends = omega (arith, g .inside i h, g .used-given, g .given-most);
+  positions-size = z .of-positions;
+  normals-size = z .of-normals;
+  classes-size = z .of-classes;
+}
+
+module _ {s : List ℕ} {c : Notes} {size : ℕ} {ps ns : List Float} {cs : List ℕ} (r : Ready s c size ps ns cs) where
+  abbrev pub here : Scene
+  here = view c ps ns cs
+
+  pub area-lies : {i : ℕ} {a : Area} → i < c .met → a ≡ getD (areasOf c) i nobody → Lies a ps ns cs
+  area-lies {i} h e = rw e (lies (r .good) (r .sized) i (rw (met-count c (r .kept)) h))
+
+  pub passable : (c .at + size ≤ 65536) × (c .records ≤ 65536)
+  passable = (omega (arith, r .whole, r .good .small), omega (arith, r .good .turns, r .good .within, r .good .small))
+
+  -- ---- a place
+  place-same : (t : Told) (number : ℕ) → outcomeStep (placeOutcome t number) (view (passedNotes c 32) ps ns cs) ≡ placeTold here number t
+  place-same (Ask.refused k) number = refl
+  place-same (Ask.answer n) number = refl
+
+  pub place-missing : (number : ℕ) {i : ℕ} → i ≡ indexOf (areasOf c) number → c .met ≤ i → faulty NotMet ≡ placeStep s here number
+  unfolding placeStep
+  place-missing number e h = rw (← e, met-count c (r .kept), le-ltb _ _ h)
+
+  pub place-met : (number : ℕ) {i : ℕ} {a : Area} {p : Vec3} {t : Told} {o : Outcome} {n : Notes} → i ≡ indexOf (areasOf c) number → i < c .met
+      → a ≡ getD (areasOf c) i nobody → p ≡ vecOf s (c .at + 8) → t ≡ placeIn a ps ns cs p → o ≡ placeOutcome t number → n ≡ passedNotes c 32
+      → outcomeStep o (view n ps ns cs) ≡ placeStep s here number
+  unfolding placeStep
+  place-met number {t = t} e h ea ep et eo en = rw (en, eo, ← e, met-count c (r .kept), lt-ltb _ _ h, ← ea, ← ep, ← et) (place-same t number)
+
+  -- ---- a pair
+  pair-same : (t : Told) (number other : ℕ) → outcomeStep (pairOutcome t number other) (view (passedNotes c 10) ps ns cs) ≡ pairTold here number other t
+  pair-same (Ask.refused k) number other = refl
+  pair-same (Ask.answer n) number other = refl
+
+  pub pair-missing : (number other : ℕ) {i : ℕ} → i ≡ indexOf (areasOf c) number → c .met ≤ i → faulty NotMet ≡ pairStep here number other
+  unfolding pairStep
+  pair-missing number other e h = rw (← e, met-count c (r .kept), le-ltb _ _ h)
+
+  pub pair-half : (number other : ℕ) {i j : ℕ} → i ≡ indexOf (areasOf c) number → i < c .met → j ≡ indexOf (areasOf c) other → c .met ≤ j → faulty NotMet ≡ pairStep here number other
+  unfolding pairStep
+  pair-half number other e h f g = rw (← e, ← f, met-count c (r .kept), lt-ltb _ _ h, le-ltb _ _ g)
+
+  pub pair-met : (number other : ℕ) {i j : ℕ} {a b : Area} {t : Told} {o : Outcome} {n : Notes} → i ≡ indexOf (areasOf c) number → i < c .met → j ≡ indexOf (areasOf c) other → j < c .met
+      → a ≡ getD (areasOf c) i nobody → b ≡ getD (areasOf c) j nobody → t ≡ pairIn a b ps ns cs → o ≡ pairOutcome t number other → n ≡ passedNotes c 10
+      → outcomeStep o (view n ps ns cs) ≡ pairStep here number other
+  unfolding pairStep
+  pair-met number other {t = t} e h f g ea eb et eo en =
+      rw (en, eo, ← e, ← f, met-count c (r .kept), lt-ltb _ _ h, lt-ltb _ _ g, ← ea, ← eb, ← et) (pair-same t number other)
+
+-- ---- an area that may come in
+module _ {s : List ℕ} {c : Notes} {ps ns : List Float} {cs : List ℕ} (number count : ℕ) (r : Ready s c (8 + 24 * count) ps ns cs) (f : Fine ≡ judgeArea (areasOf c) (c .given) number count) where
+  may : Allowed (c .met) (c .given) count
+  may = rw (met-count c (r .kept)) at (allowed (areasOf c) (c .given) number count f)
+
+  pub room : (count ≤ 1024) × Room s (c .at + 8) count (c .used) (3 * count) (length ps) (length ns) (length cs)
+  room = (
+    omega (arith, may .few),
+    record {
+      small = r .good .small;
+      within = omega (arith, r .whole);
+      exact = refl;
+      unused = omega (arith, r .good .used-given, r .good .given-most);
+      positions-size = r .sized .of-positions;
+      normals-size = r .sized .of-normals;
+      classes-size = r .sized .of-classes;
+    },
+  )
+
+  -- what the build answered and left
+  module _ {b : Built} {ps′ ns′ : List Float} {cs′ : List ℕ} (e : record { answer = B.told b; positions = ps′; normals = ns′; classes = cs′ } ≡ builtAt (floatsAt s (c .at + 8) count) (c .used) ps ns cs) where
+    pub area-refused : {k : ℕ} → b ≡ Built.Refused k → refused k ≡ areaMade s (view c ps ns cs) number count
+    unfolding areaMade
+    area-refused q = rw (← e, q)
+
+    module _ {h : Header} (q : b ≡ Built.Loop h) where
+      fits : h .count ≤ count
+      fits = built-count s (c .at + 8) count (c .used) ps ns cs (sym (ap B.told q) ∙ ap (λ (o : B.Out). o .answer) e)
+
+      pub addable : Addable c (areaAt (c .used) number h) count
+      addable = record {
+        place = may .place;
+        end = omega (arith, r .whole, r .good .small);
+        few = omega (arith, r .good .turns, r .good .within, r .good .small);
+        given = may .few;
+        corners = omega (arith, fits, may .few, r .good .used-given);
+      }
+
+      pub new-lies : length ps′ ≡ length ps → length ns′ ≡ length ns → length cs′ ≡ length cs → Lies (areaAt (c .used) number h) ps′ ns′ cs′
+      new-lies p n k = record { ends = addable .corners; positions-size = p ∙ r .sized .of-positions; normals-size = n ∙ r .sized .of-normals; classes-size = k ∙ r .sized .of-classes }
+
+      pub area-looped : {n : Stepped} → n ≡ record { outcome = Outcome.Line (Line.Area number h (triangleCount (areaAt (c .used) number h) ps′ cs′)); next = addedNotes c (areaAt (c .used) number h) count }
+          → toldStep n ps′ ns′ cs′ ≡ areaMade s (view c ps ns cs) number count
+      unfolding areaMade
+      area-looped v =
+          let g : c .met < length (c .areas) = omega (arith, may .place, r .kept .size) in
+          rw (v, ← e, q, add-one (c .met), take-suc-set (c .areas) (c .met) (areaAt (c .used) number h) g)
+
+pub area-bad : (s : List ℕ) (w : Scene) (number count : ℕ) {j : Judged} {f : Fault} → j ≡ judgeArea (w .areas) (w .given) number count → j ≡ Bad f → faulty f ≡ areaStep s w number count
+unfolding areaStep
+area-bad s w number count e q = rw (← e, q)
+
+pub area-fine : (s : List ℕ) (w : Scene) (number count : ℕ) {j : Judged} {x : Step} → j ≡ judgeArea (w .areas) (w .given) number count → j ≡ Fine → x ≡ areaMade s w number count → x ≡ areaStep s w number count
+unfolding areaStep
+area-fine s w number count e q h = rw (← e, q) h

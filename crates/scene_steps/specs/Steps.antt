@@ -1,0 +1,163 @@
+-- What one record comes to. Document 01, "The scene program". Definitions only.
+use Prim.Native.Nat.{ℕ, _+_, _*_, _≤_, _<_}
+use mathlib.Core.Path.{_≡_}
+use mathlib.Core.Bool.{Bool, cond}
+use mathlib.Core.List.{List, [], _∷_, _++_}
+use lib.ListN.{length, getD}
+use lib.Dec.{ltb, leb, eqb}
+use lib.Ieee.{Float}
+use Rattle.wire.specs.Wire.{vecOf}
+use Rattle.loop_header.specs.declared.Header.{Header}
+use Rattle.loop_build.specs.Build.{Out}
+use Rattle.loop_build.specs.Build as B
+use Rattle.loop_ask.specs.Answers.{Told}
+use Rattle.loop_ask.specs.Answers as Ask
+use Rattle.scene_lines.specs.declared.Line.{Line}
+use Rattle.scene_lines.specs.declared.Line.the-variants as Line
+use Rattle.scene_records.specs.declared.Fault.{Fault}
+use Rattle.scene_records.specs.declared.Fault.the-variants.{NotMet}
+use Rattle.scene_records.specs.declared.Read.{Read}
+use Rattle.scene_records.specs.declared.Read.the-variants as Read
+use Rattle.scene_records.specs.Records.{readAt, floatsAt}
+use Rattle.scene_store.specs.declared.Area.{Area}
+use Rattle.scene_notes.specs.declared.Notes.{Notes}
+use Rattle.scene_notes.specs.declared.Judged.{Judged}
+use Rattle.scene_notes.specs.declared.Judged.the-variants.{Fine, Bad}
+use Rattle.scene_steps.specs.declared.Stepped.{Stepped}
+use Rattle.scene_steps.specs.declared.Outcome.{Outcome}
+use Rattle.scene_steps.specs.declared.Outcome.the-variants as Outcome
+use Rattle.scene_notes.specs.Noted.{Scene, indexOf, Kept, view, areaAt, judgeArea}
+use Rattle.scene_store.specs.Store.{nobody, builtAt, triangleCount, placeIn, pairIn}
+
+-- what a record comes to: there is none, its fault, a call's own refusal, or its line and the scene after it
+pub data Step : Type 0 where
+  ended : Step
+  faulty : Fault → Step
+  refused : ℕ → Step
+  wrote : Line → Scene → Step
+
+-- the scene after a record of `size` bytes that brings no area
+abbrev pub passedBy : ℕ → Scene → Scene
+passedBy size w = record {
+  at = w .at + size;
+  records = w .records + 1;
+  areas = w .areas;
+  given = w .given;
+  used = w .used;
+  positions = w .positions;
+  normals = w .normals;
+  classes = w .classes;
+}
+
+-- ---- kind 1
+-- the scene with one area more
+abbrev pub withArea : Scene → Area → ℕ → Out → Scene
+withArea w a count o = record {
+  at = w .at + 8 + 24 * count;
+  records = w .records + 1;
+  areas = w .areas ++ (a ∷ []);
+  given = w .given + count;
+  used = w .used + a .header .count;
+  positions = o .positions;
+  normals = o .normals;
+  classes = o .classes;
+}
+
+-- "each area's ring goes into the still unused rest of one lent store"
+abbrev pub areaTold : Scene → ℕ → ℕ → Out → B.Told → Step
+areaTold w number count o (B.refused k) = refused k
+areaTold w number count o (B.loop h) = wrote (Line.Area number h (triangleCount (areaAt (w .used) number h) (o .positions) (o .classes))) (withArea w (areaAt (w .used) number h) count o)
+
+abbrev pub areaOut : List ℕ → Scene → ℕ → Out
+areaOut s w count = builtAt (floatsAt s (w .at + 8) count) (w .used) (w .positions) (w .normals) (w .classes)
+
+unfoldable pub areaMade : List ℕ → Scene → ℕ → ℕ → Step
+areaMade s w number count = areaTold w number count (areaOut s w count) (areaOut s w count .answer)
+
+-- refusal 10 "comes before a call's own refusal"
+abbrev pub areaBy : Judged → List ℕ → Scene → ℕ → ℕ → Step
+areaBy (Bad f) s w number count = faulty f
+areaBy Fine s w number count = areaMade s w number count
+
+unfoldable pub areaStep : List ℕ → Scene → ℕ → ℕ → Step
+areaStep s w number count = areaBy (judgeArea (w .areas) (w .given) number count) s w number count
+
+-- the area of a number that was met
+abbrev pub met : Scene → ℕ → Area
+met w number = getD (w .areas) (indexOf (w .areas) number) nobody
+
+abbrev pub isMet : Scene → ℕ → Bool
+isMet w number = ltb (indexOf (w .areas) number) (length (w .areas))
+
+-- ---- kind 2: "not yet met"
+abbrev pub placeTold : Scene → ℕ → Told → Step
+placeTold w number (Ask.refused k) = refused k
+placeTold w number (Ask.answer n) = wrote (Line.Place number n) (passedBy 32 w)
+
+unfoldable pub placeStep : List ℕ → Scene → ℕ → Step
+placeStep s w number =
+    cond (isMet w number) (placeTold w number (placeIn (met w number) (w .positions) (w .normals) (w .classes) (vecOf s (w .at + 8)))) (faulty NotMet)
+
+-- ---- kind 3
+abbrev pub pairTold : Scene → ℕ → ℕ → Told → Step
+pairTold w number other (Ask.refused k) = refused k
+pairTold w number other (Ask.answer n) = wrote (Line.Pair number other n) (passedBy 10 w)
+
+unfoldable pub pairStep : Scene → ℕ → ℕ → Step
+pairStep w number other =
+    cond (isMet w number)
+    (cond (isMet w other) (pairTold w number other (pairIn (met w number) (met w other) (w .positions) (w .normals) (w .classes))) (faulty NotMet))
+    (faulty NotMet)
+
+-- ---- a record by its kind
+abbrev pub stepBy : Read → List ℕ → Scene → Step
+stepBy Read.End s w = ended
+stepBy (Read.Bad f place) s w = faulty f
+stepBy (Read.Area number count) s w = areaStep s w number count
+stepBy (Read.Place number) s w = placeStep s w number
+stepBy (Read.Pair number other) s w = pairStep w number other
+
+unfoldable pub step : List ℕ → Scene → Step
+step s w = stepBy (readAt s (w .at)) s w
+
+-- ---- what holds between two records
+pub record Good (s : List ℕ) (w : Scene) : Type 0 where
+  pub small : length s ≤ 65536
+  pub within : w .at ≤ length s
+  pub turns : w .records ≤ w .at
+  pub few : length (w .areas) ≤ 16
+  pub used-given : w .used ≤ w .given
+  pub given-most : w .given ≤ 1024
+  pub inside : (i : ℕ) → i < length (w .areas) → getD (w .areas) i nobody .start + getD (w .areas) i nobody .header .count ≤ w .used
+
+-- the program's answer to a record, with the store as it left it
+abbrev pub outcomeStep : Outcome → Scene → Step
+outcomeStep Outcome.End w = ended
+outcomeStep (Outcome.Bad f) w = faulty f
+outcomeStep (Outcome.Refused k) w = refused k
+outcomeStep (Outcome.Line line) w = wrote line w
+
+abbrev pub toldStep : Stepped → List Float → List Float → List ℕ → Step
+toldStep r ps ns cs = outcomeStep (r .outcome) (view (r .next) ps ns cs)
+
+-- an answer told, as the program's outcome
+abbrev pub placeOutcome : Told → ℕ → Outcome
+placeOutcome (Ask.refused k) number = Outcome.Refused k
+placeOutcome (Ask.answer n) number = Outcome.Line (Line.Place number n)
+
+abbrev pub pairOutcome : Told → ℕ → ℕ → Outcome
+pairOutcome (Ask.refused k) number other = Outcome.Refused k
+pairOutcome (Ask.answer n) number other = Outcome.Line (Line.Pair number other n)
+
+-- the store has 1,024 corners
+pub record Sized (positions normals classes : ℕ) : Type 0 where
+  pub of-positions : positions ≡ 3072
+  pub of-normals : normals ≡ 3072
+  pub of-classes : classes ≡ 1024
+
+-- what the taking of a record is handed: its bytes are all there
+pub record Ready (s : List ℕ) (c : Notes) (size : ℕ) (ps ns : List Float) (cs : List ℕ) : Type 0 where
+  pub good : Good s (view c ps ns cs)
+  pub kept : Kept c
+  pub sized : Sized (length ps) (length ns) (length cs)
+  pub whole : c .at + size ≤ length s

@@ -1,0 +1,221 @@
+// A scene's records taken one by one: what is known between two records, and what each comes to.
+ghost use mathlib.Core.Path.{_≡_};
+ghost use Prim.Native.Nat.{_+_, _*_, _≤_, _<_};
+ghost use lib.ListN.{length, getD};
+ghost use Rattle.loop_ask.specs.Answers.{toldPlaced};
+ghost use Rattle.loop_relate.specs.Relations.{toldRelated};
+ghost use Rattle.scene_store.specs.Store as St;
+ghost use Rattle.scene_notes.specs.Noted as N;
+ghost use Rattle.scene_steps.specs.Steps as S;
+use loop_ask::Placed;
+use loop_build::Built;
+use loop_header::Header;
+use loop_relate::Related;
+use scene_lines::Line;
+use scene_notes::Judged;
+use scene_notes::Notes;
+use scene_records::Fault;
+use scene_records::Read;
+use scene_store::Area;
+
+// What a record comes to: there is none, its fault, a call's own refusal, or its line.
+pub enum Outcome {
+    End,
+    Bad(Fault),
+    Refused(u8),
+    Line(Line),
+}
+
+// The same with the notes after it, which stand beside it since they hold an array.
+pub struct Stepped {
+    pub outcome: Outcome,
+    pub next: Notes,
+}
+
+// The line of an area that was built, and the notes with it.
+fn area_line(
+    c: Notes,
+    number: usize,
+    count: usize,
+    h: Header,
+    positions: &[f64],
+    normals: &[f64],
+    classes: &[u8],
+) -> Stepped
+    requires { ⌜ St.Lies (N.areaAt (c .used) number h) (now positions) (now normals) (now classes) × N.Addable c (N.areaAt (c .used) number h) count ⌝ }
+    ensures { λ r. ⌜ r ≡ record { outcome = Outcome.Line (Line.Area number h (St.triangleCount (N.areaAt (c .used) number h) (now (positions .entry)) (now (classes .entry)))); next = N.addedNotes c (N.areaAt (c .used) number h) count } ⌝ }
+{
+    let a = Area {
+        number,
+        start: c.used,
+        header: h,
+    };
+    let triangles = scene_store::triangle_count(a, positions, normals, classes);
+    Stepped {
+        outcome: Outcome::Line(Line::Area(number, h, triangles)),
+        next: scene_notes::added(c, a, count),
+    }
+}
+
+// An area that may come in is built; its own refusal ends the scene.
+fn area_made(
+    s: &[u8],
+    c: Notes,
+    number: usize,
+    count: usize,
+    positions: &mut [f64],
+    normals: &mut [f64],
+    classes: &mut [u8],
+) -> Stepped
+    requires { ⌜ S.Ready (now s) c (8 + 24 * count) (now positions) (now normals) (now classes) × (Judged.Fine ≡ N.judgeArea (N.areasOf c) (c .given) number count) ⌝ }
+    ensures { λ r. ⌜ S.toldStep r (now (positions .exit)) (now (normals .exit)) (now (classes .exit)) ≡ S.areaMade (now (s .entry)) (N.view c (now (positions .entry)) (now (normals .entry)) (now (classes .entry))) number count ⌝ }
+    ensures { λ r. ⌜ N.Kept (r .next) ⌝ }
+{
+    match scene_store::build_area(s, c.at + 8, count, c.used, positions, normals, classes) {
+        Built::Refused(k) => Stepped {
+            outcome: Outcome::Refused(k),
+            next: c,
+        },
+        Built::Loop(h) => area_line(c, number, count, h, positions, normals, classes),
+    }
+}
+
+fn area_step(
+    s: &[u8],
+    c: Notes,
+    number: usize,
+    count: usize,
+    positions: &mut [f64],
+    normals: &mut [f64],
+    classes: &mut [u8],
+) -> Stepped
+    requires { ⌜ S.Ready (now s) c (8 + 24 * count) (now positions) (now normals) (now classes) ⌝ }
+    ensures { λ r. ⌜ S.toldStep r (now (positions .exit)) (now (normals .exit)) (now (classes .exit)) ≡ S.areaStep (now (s .entry)) (N.view c (now (positions .entry)) (now (normals .entry)) (now (classes .entry))) number count ⌝ }
+    ensures { λ r. ⌜ N.Kept (r .next) ⌝ }
+{
+    match scene_notes::judge_area(c, number, count) {
+        Judged::Bad(f) => Stepped {
+            outcome: Outcome::Bad(f),
+            next: c,
+        },
+        Judged::Fine => area_made(s, c, number, count, positions, normals, classes),
+    }
+}
+
+// The line of a place, by its answer's number.
+fn place_told(p: Placed, number: usize) -> Outcome
+    ensures { λ r. ⌜ r ≡ S.placeOutcome (toldPlaced p) number ⌝ }
+{
+    match p {
+        Placed::Refused(k) => Outcome::Refused(k),
+        Placed::Outside => Outcome::Line(Line::Place(number, 0)),
+        Placed::Inside => Outcome::Line(Line::Place(number, 1)),
+        Placed::Mute => Outcome::Line(Line::Place(number, 2)),
+    }
+}
+
+fn place_step(
+    s: &[u8],
+    c: Notes,
+    number: usize,
+    positions: &[f64],
+    normals: &[f64],
+    classes: &[u8],
+) -> Stepped
+    requires { ⌜ S.Ready (now s) c 32 (now positions) (now normals) (now classes) ⌝ }
+    ensures { λ r. ⌜ S.toldStep r (now (positions .entry)) (now (normals .entry)) (now (classes .entry)) ≡ S.placeStep (now (s .entry)) (N.view c (now (positions .entry)) (now (normals .entry)) (now (classes .entry))) number ⌝ }
+    ensures { λ r. ⌜ N.Kept (r .next) ⌝ }
+{
+    let i = scene_notes::index_of(c, number);
+    if c.met <= i {
+        return Stepped {
+            outcome: Outcome::Bad(Fault::NotMet),
+            next: c,
+        };
+    }
+    let a = scene_notes::area_of(c, i);
+    let p = wire::vec_at(s, c.at + 8);
+    let placed = scene_store::place_in(a, positions, normals, classes, p);
+    Stepped {
+        outcome: place_told(placed, number),
+        next: scene_notes::passed(c, 32),
+    }
+}
+
+// The line of a pair, by its relation's number.
+fn pair_told(p: Related, number: usize, other: usize) -> Outcome
+    ensures { λ r. ⌜ r ≡ S.pairOutcome (toldRelated p) number other ⌝ }
+{
+    match p {
+        Related::Refused(k) => Outcome::Refused(k),
+        Related::Disjoint => Outcome::Line(Line::Pair(number, other, 0)),
+        Related::Touching => Outcome::Line(Line::Pair(number, other, 1)),
+        Related::Intersecting => Outcome::Line(Line::Pair(number, other, 2)),
+        Related::Containing => Outcome::Line(Line::Pair(number, other, 3)),
+        Related::Within => Outcome::Line(Line::Pair(number, other, 4)),
+        Related::Equal => Outcome::Line(Line::Pair(number, other, 5)),
+    }
+}
+
+fn pair_step(
+    s: &[u8],
+    c: Notes,
+    number: usize,
+    other: usize,
+    positions: &[f64],
+    normals: &[f64],
+    classes: &[u8],
+) -> Stepped
+    requires { ⌜ S.Ready (now s) c 10 (now positions) (now normals) (now classes) ⌝ }
+    ensures { λ r. ⌜ S.toldStep r (now (positions .entry)) (now (normals .entry)) (now (classes .entry)) ≡ S.pairStep (N.view c (now (positions .entry)) (now (normals .entry)) (now (classes .entry))) number other ⌝ }
+    ensures { λ r. ⌜ N.Kept (r .next) ⌝ }
+{
+    let i = scene_notes::index_of(c, number);
+    if c.met <= i {
+        return Stepped {
+            outcome: Outcome::Bad(Fault::NotMet),
+            next: c,
+        };
+    }
+    let j = scene_notes::index_of(c, other);
+    if c.met <= j {
+        return Stepped {
+            outcome: Outcome::Bad(Fault::NotMet),
+            next: c,
+        };
+    }
+    let a = scene_notes::area_of(c, i);
+    let b = scene_notes::area_of(c, j);
+    let related = scene_store::pair_in(a, b, positions, normals, classes);
+    Stepped {
+        outcome: pair_told(related, number, other),
+        next: scene_notes::passed(c, 10),
+    }
+}
+
+// The record at the notes' offset, by its kind.
+pub fn step(
+    s: &[u8],
+    c: Notes,
+    positions: &mut [f64],
+    normals: &mut [f64],
+    classes: &mut [u8],
+) -> Stepped
+    requires { ⌜ S.Ready (now s) c 0 (now positions) (now normals) (now classes) ⌝ }
+    ensures { λ r. ⌜ S.toldStep r (now (positions .exit)) (now (normals .exit)) (now (classes .exit)) ≡ S.step (now (s .entry)) (N.view c (now (positions .entry)) (now (normals .entry)) (now (classes .entry))) ⌝ }
+    ensures { λ r. ⌜ N.Kept (r .next) ⌝ }
+{
+    match scene_records::read_at(s, c.at) {
+        Read::End => Stepped {
+            outcome: Outcome::End,
+            next: c,
+        },
+        Read::Bad(f, _) => Stepped {
+            outcome: Outcome::Bad(f),
+            next: c,
+        },
+        Read::Area(number, count) => { area_step(s, c, number, count, positions, normals, classes) }
+        Read::Place(number) => place_step(s, c, number, positions, normals, classes),
+        Read::Pair(number, other) => pair_step(s, c, number, other, positions, normals, classes),
+    }
+}

@@ -1,0 +1,16 @@
+use Prim.Native.Nat.{_≤_}
+use native.Mathlib.Omega.{arith}
+use borrow.Author.Needs.{needs}
+use Rattle.test_cuts.proofs.main.Statement.{statement}
+use Rattle.test_cuts.proofs.main.Tie as tie
+
+abbrev Inv-loop : tie.InvT-loop
+Inv-loop turns₀ turns = turns ≤ turns₀
+
+abbrev μ-loop : tie.MeasureT-loop
+μ-loop turns₀ turns = turns
+
+pub main-spec : {M : Type 1} → statement M
+main-spec =
+    tie.close
+    (tie.spec Inv-loop μ-loop (λ c. search needs) (λ c κs. tt) (λ c. tt) (λ c. search needs) (λ c. search needs) (λ c. search needs) (λ c. tt))

@@ -1,19 +1,19 @@
 -- The arctangent of two arguments, over the float operations. Document 01: "The port has its own, fixed by a definition over float operations". Definitions only.
 -- For 0 ≤ t ≤ 1 it is Euler's series: atan t = t / (1 + t²) * Σ cₖ yᵏ with y = t² / (1 + t²), cₖ = 2/3 * 4/5 * .. * 2k/(2k+1), summed to k = 48.
-use mathlib.Core.Bool.{Bool, true, false, cond, _||_}
+use mathlib.Core.Bool.{Bool, cond, _||_}
 use mathlib.Core.List.{List, [], _∷_}
 use lib.Ieee.{Float, binary64, ofBits, neg, lt, eq}
 use Rattle.numbers.specs.F64.{_⊕_, _⊖_, _⊗_, _⊘_, zero, one}
 
 -- π/4, π/2, π, each the nearest
-abbrev pub QUARTER : Float
-QUARTER = ofBits binary64 0x3fe921fb54442d18
+abbrev pub FRAC-PI-4 : Float
+FRAC-PI-4 = ofBits binary64 0x3fe921fb54442d18
 
-abbrev pub HALF : Float
-HALF = ofBits binary64 0x3ff921fb54442d18
+abbrev pub FRAC-PI-2 : Float
+FRAC-PI-2 = ofBits binary64 0x3ff921fb54442d18
 
-abbrev pub WHOLE : Float
-WHOLE = ofBits binary64 0x400921fb54442d18
+abbrev pub PI : Float
+PI = ofBits binary64 0x400921fb54442d18
 
 -- whether the sign is minus, of a zero too
 abbrev pub minus : Float → Bool
@@ -91,12 +91,12 @@ acute t = (t ⊘ (one ⊕ t ⊗ t)) ⊗ sumOf ((t ⊗ t) ⊘ (one ⊕ t ⊗ t))
 unfoldable pub quadrant : Float → Float → Float
 quadrant a b =
     cond (lt a b) (acute (a ⊘ b))
-    (cond (lt b a) (HALF ⊖ acute (b ⊘ a))
+    (cond (lt b a) (FRAC-PI-2 ⊖ acute (b ⊘ a))
     (cond (eq a zero) zero
-    (cond (eq a b) QUARTER (a ⊕ b))))
+    (cond (eq a b) FRAC-PI-4 (a ⊕ b))))
 
 abbrev pub turned : Bool → Float → Float
-turned back r = cond back (WHOLE ⊖ r) r
+turned back r = cond back (PI ⊖ r) r
 
 abbrev pub signed : Bool → Float → Float
 signed down r = cond down (neg r) r

@@ -1,7 +1,6 @@
 // Angles in radians, and the arctangent that is the port's own: Euler's series, fixed by its definition over float operations.
 // Total on every float; what comes out at infinities and NaN is what the definition says.
 ghost use mathlib.Core.Path.{_≡_};
-ghost use mathlib.Core.Bool.{Bool};
 ghost use Rattle.angle.specs.Arctan as Atn;
 ghost use Rattle.angle.specs.Angles as Angles;
 
@@ -9,11 +8,11 @@ ghost use Rattle.angle.specs.Angles as Angles;
 pub struct Angle(pub f64);
 
 // A quarter, a half and the whole of pi, each the nearest float.
-pub const QUARTER: f64 = 0.7853981633974483;
+pub const FRAC_PI_4: f64 = 0.7853981633974483;
 
-pub const HALF: f64 = 1.5707963267948966;
+pub const FRAC_PI_2: f64 = 1.5707963267948966;
 
-pub const WHOLE: f64 = 3.141592653589793;
+pub const PI: f64 = 3.141592653589793;
 
 // Whether the sign of x is minus, of a zero too.
 pub fn minus(x: f64) -> bool
@@ -78,11 +77,11 @@ pub fn quadrant(a: f64, b: f64) -> f64
     if a < b {
         acute(a / b)
     } else if b < a {
-        HALF - acute(b / a)
+        FRAC_PI_2 - acute(b / a)
     } else if a == 0.0 {
         0.0
     } else if a == b {
-        QUARTER
+        FRAC_PI_4
     } else {
         a + b
     }
@@ -92,7 +91,7 @@ pub fn quadrant(a: f64, b: f64) -> f64
 pub fn turned(back: bool, r: f64) -> f64
     ensures { λ r'. ⌜ r' ≡ Atn.turned back r ⌝ }
 {
-    if back { WHOLE - r } else { r }
+    if back { PI - r } else { r }
 }
 
 // r with a sign.
@@ -102,7 +101,7 @@ pub fn signed(down: bool, r: f64) -> f64
     if down { -r } else { r }
 }
 
-// The angle of (x, y) from the positive x axis, from -WHOLE to WHOLE.
+// The angle of (x, y) from the positive x axis, from -WHOLE to PI.
 pub fn atan2(y: f64, x: f64) -> f64
     ensures { λ r. ⌜ r ≡ Atn.atan2 y x ⌝ }
 {

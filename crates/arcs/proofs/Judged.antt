@@ -1,6 +1,6 @@
 -- A refusal comes before an answer. Assumes nothing.
 use Prim.Native.Nat.{ℕ, zero, suc}
-use mathlib.Core.Path.{_≡_, refl, sym, _∙_}
+use mathlib.Core.Path.{_≡_, refl, _∙_}
 use Rattle.arcs.specs.Answers.{Told, refused, judged}
 
 hit : (g : ℕ) (t : Told) → (g ≡ 0 → ⊥) → refused g ≡ judged g t

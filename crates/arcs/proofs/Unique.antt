@@ -1,7 +1,7 @@
 -- The paper's numbers and values tell each answer from every other, and so a contract leaves one answer. Assumes nothing.
 use mathlib.Core.Path.{_≡_, refl, sym, ap, _∙_}
-use Prim.Native.Nat.{ℕ, zero, suc}
-use mathlib.Core.List.{List, [], _∷_}
+use Prim.Native.Nat.{zero, suc}
+use mathlib.Core.List.{[], _∷_}
 use Rattle.arcs.specs.declared.ArcMade.{ArcMade}
 use Rattle.arcs.specs.declared.ArcMade.the-variants as Made
 use Rattle.arcs.specs.declared.Sided.{Sided}

@@ -1,7 +1,6 @@
 // The desk's six functions on arcs. They take whatever is handed in: each position and normal is made free of -0.0 and judged, an arc's start, end and
 // normal in this order, the first arc before the second, both before the query. Then they answer.
 ghost use mathlib.Core.Path.{_≡_};
-ghost use mathlib.Core.Bool.{Bool};
 ghost use Rattle.arcs.specs.Answers as Answers;
 use arc_relations::MinorArcRelation;
 use base::Side;
@@ -42,7 +41,7 @@ pub enum ArcRelated {
 }
 
 // An arc as it is read: free of -0.0.
-fn read(a: MinorArc) -> MinorArc
+fn clear_arc(a: MinorArc) -> MinorArc
     ensures { λ r. ⌜ r ≡ Answers.clearedArc a ⌝ }
 {
     MinorArc {
@@ -125,7 +124,7 @@ pub fn new(start: Vec3, end: Vec3) -> ArcMade
 pub fn opposite(a: MinorArc) -> ArcMade
     ensures { λ r. ⌜ Answers.toldMade r ≡ Answers.oppositeAnswer a ⌝ }
 {
-    let arc = read(a);
+    let arc = clear_arc(a);
     let f = arc_fault(arc);
     if f != 0 {
         return ArcMade::Refused(f);
@@ -136,7 +135,7 @@ pub fn opposite(a: MinorArc) -> ArcMade
 pub fn side_of(a: MinorArc, p: Vec3) -> Sided
     ensures { λ r. ⌜ Answers.toldSided r ≡ Answers.sideAnswer a p ⌝ }
 {
-    let arc = read(a);
+    let arc = clear_arc(a);
     let q = p.clear();
     let f = query_fault(arc, q);
     if f != 0 {
@@ -148,7 +147,7 @@ pub fn side_of(a: MinorArc, p: Vec3) -> Sided
 pub fn contains_position(a: MinorArc, p: Vec3) -> Contained
     ensures { λ r. ⌜ Answers.toldContained r ≡ Answers.containsAnswer a p ⌝ }
 {
-    let arc = read(a);
+    let arc = clear_arc(a);
     let q = p.clear();
     let f = query_fault(arc, q);
     if f != 0 {
@@ -160,8 +159,8 @@ pub fn contains_position(a: MinorArc, p: Vec3) -> Contained
 pub fn intersection(a: MinorArc, b: MinorArc) -> Met
     ensures { λ r. ⌜ Answers.toldMet r ≡ Answers.intersectionAnswer a b ⌝ }
 {
-    let one = read(a);
-    let other = read(b);
+    let one = clear_arc(a);
+    let other = clear_arc(b);
     let f = pair_fault(one, other);
     if f != 0 {
         return Met::Refused(f);
@@ -172,8 +171,8 @@ pub fn intersection(a: MinorArc, b: MinorArc) -> Met
 pub fn relate(a: MinorArc, b: MinorArc) -> ArcRelated
     ensures { λ r. ⌜ Answers.toldRelated r ≡ Answers.relateAnswer a b ⌝ }
 {
-    let one = read(a);
-    let other = read(b);
+    let one = clear_arc(a);
+    let other = clear_arc(b);
     let f = pair_fault(one, other);
     if f != 0 {
         return ArcRelated::Refused(f);

@@ -4,12 +4,12 @@ use mathlib.Core.Bool.{Bool, true, false, cond}
 use lib.Ieee.{Float, lt}
 use Rattle.numbers.specs.F64.{_⊖_, _⊘_}
 use Rattle.angle.specs.Arctan as Arctan
-use Rattle.angle.specs.Arctan.{HALF, minus, acute, quadrant, turned, signed, atan2}
+use Rattle.angle.specs.Arctan.{FRAC-PI-2, minus, acute, quadrant, turned, signed, atan2}
 use Rattle.angle.specs.declared.Angle.{Angle}
 use Rattle.angle.specs.Angles.{between}
 use Rattle.arctangents.specs.Arctangents.{proportion, quadrantBy, angleBy}
 
-chosen : (p q : Bool) (a b z : Float) → cond p (acute (cond p a b ⊘ cond p b a)) (cond q (HALF ⊖ acute (cond p a b ⊘ cond p b a)) z) ≡ cond p (acute (a ⊘ b)) (cond q (HALF ⊖ acute (b ⊘ a)) z)
+chosen : (p q : Bool) (a b z : Float) → cond p (acute (cond p a b ⊘ cond p b a)) (cond q (FRAC-PI-2 ⊖ acute (cond p a b ⊘ cond p b a)) z) ≡ cond p (acute (a ⊘ b)) (cond q (FRAC-PI-2 ⊖ acute (b ⊘ a)) z)
 chosen true q a b z = refl
 chosen false q a b z = refl
 

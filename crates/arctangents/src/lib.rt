@@ -46,11 +46,11 @@ fn quadrant_by(a: f64, b: f64, u: f64) -> f64
     if a < b {
         u
     } else if b < a {
-        angle::HALF - u
+        angle::FRAC_PI_2 - u
     } else if a == 0.0 {
         0.0
     } else if a == b {
-        angle::QUARTER
+        angle::FRAC_PI_4
     } else {
         a + b
     }

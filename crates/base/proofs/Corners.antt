@@ -1,7 +1,7 @@
 -- The sides that document 01 settles: antt computes each. Assumes nothing.
 use mathlib.Core.Path.{_≡_, refl}
 use lib.Ieee.{add, sub, mul, div, neg, lt, le, eq, ofBits}
-use Rattle.root.specs.Root.{rootOf, rootUnits, wholeRoot}
+use Rattle.root.specs.Root.{rootOf}
 use Rattle.numbers.specs.Near.{abs}
 use Rattle.vec3.specs.Vec.{axis-x, axis-y, axis-z, unitVec, axisFor, orthogonalTo}
 use Rattle.base.specs.Sides.{signOf, retestOf, sideOf}

@@ -14,5 +14,5 @@ sineOf v1 v2 vn =
     let norm = rootOf (dot k k) in
     if le zero (dot k vn) then norm else neg norm
 
-abbrev pub turnOf : Vec3 → Vec3 → Vec3 → Angle
-turnOf v1 v2 vn = between (sineOf v1 v2 vn) (dot v1 v2)
+abbrev pub turningAngle : Vec3 → Vec3 → Vec3 → Angle
+turningAngle v1 v2 vn = between (sineOf v1 v2 vn) (dot v1 v2)

@@ -1,7 +1,7 @@
 // The side of a position against a great circle, and the turning angle, as spherical/base.rs has them. Total on every float.
 ghost use mathlib.Core.Path.{_≡_};
 ghost use Rattle.base.specs.Sides.{signOf, retestOf, sideOf, settlesRight, settlesLeft, surelyRight};
-ghost use Rattle.base.specs.Turns.{sineOf, turnOf};
+ghost use Rattle.base.specs.Turns.{sineOf, turningAngle};
 use angle::Angle;
 use vec3::Vec3;
 
@@ -45,14 +45,14 @@ pub fn side_of(v0: Vec3, v1: Vec3, v2: Vec3) -> Side
 }
 
 // Whether a triple product settles its side alone, and that is right.
-pub fn is_right(t: f64) -> bool
+pub fn settles_right(t: f64) -> bool
     ensures { λ r. ⌜ r ≡ settlesRight t ⌝ }
 {
     !(numbers::abs(t) <= TRIAGE_SIDE_EPS) & !(t > 0.0)
 }
 
 // Whether it does, and that is left.
-pub fn is_left(t: f64) -> bool
+pub fn settles_left(t: f64) -> bool
     ensures { λ r. ⌜ r ≡ settlesLeft t ⌝ }
 {
     !(numbers::abs(t) <= TRIAGE_SIDE_EPS) & (t > 0.0)
@@ -62,7 +62,7 @@ pub fn is_left(t: f64) -> bool
 pub fn is_surely_right(v0: Vec3, normal: Vec3) -> bool
     ensures { λ r. ⌜ r ≡ surelyRight v0 normal ⌝ }
 {
-    is_right(v0.dot_prod(normal))
+    settles_right(v0.dot_prod(normal))
 }
 
 // The sine of the angle from v1 to v2 times their lengths: the length of their cross product, negative where that points away from vn.
@@ -76,7 +76,7 @@ pub fn sine(v1: Vec3, v2: Vec3, vn: Vec3) -> f64
 
 // The signed angle from v1 to v2, looking along vn.
 pub fn turning_angle(v1: Vec3, v2: Vec3, vn: Vec3) -> Angle
-    ensures { λ r. ⌜ r ≡ turnOf v1 v2 vn ⌝ }
+    ensures { λ r. ⌜ r ≡ turningAngle v1 v2 vn ⌝ }
 {
     Angle::between(sine(v1, v2, vn), v1.dot_prod(v2))
 }

@@ -1,21 +1,21 @@
 -- What a call leaves: a refusal and the buffer as it was, or an answer and its bytes. Assumes nothing.
-use Prim.Native.Nat.{ℕ, zero, suc, _+_, _*_, _≤_, _<_}
+use Prim.Native.Nat.{ℕ, _*_, _≤_, _<_}
 use mathlib.Core.Path.{_≡_, sym, _∙_}
-use mathlib.Core.List.{List, [], _∷_, _++_, append-assoc, append-nil}
+use mathlib.Core.List.{List, [], _∷_, append-assoc, append-nil}
 use native.Mathlib.Omega.{arith}
 use lib.ListN.{length}
 use lib.Seq.{sets}
 use borrow.Author.Tests.{lt-ltb, le-ltb}
 use Rattle.laws.proofs.Firsts.{first-zero}
 use Rattle.vec3.specs.declared.Vec3.{Vec3}
-use Rattle.wire.specs.Wire.{floatBytes, vecBytes}
+use Rattle.wire.specs.Wire.{vecBytes}
 use Rattle.wire.proofs.Bytes.{three}
 use Rattle.bytes_loop.specs.Layout.{sizeFault}
 use Rattle.bytes_loop.proofs.Faults.{size-right}
 use Rattle.bytes_loop.proofs.Lays.{width}
-use Rattle.arcs.specs.Answers.{Told, refused, answer, judged, arcFault}
+use Rattle.arcs.specs.Answers.{Told, answer, judged, arcFault}
 use Rattle.arcs.proofs.Judged.{judged-hit, judged-none}
-use Rattle.bytes_loop.specs.Left.{Left, left, refusalOf}
+use Rattle.bytes_loop.specs.Outcome.{Outcome, outcome, refusalOf}
 use Rattle.bytes_arcs.specs.Arcs.{arcAt, arcJudged, nextJudged, endsJudged, numberOf, valueBytes, leave}
 
 -- ---- the values written one after the other
@@ -27,21 +27,21 @@ three-written out a b c p q r = rw (append-nil, ← append-assoc (vecBytes a) (v
 
 -- ---- room, or refusal 5
 module _ (n : ℕ) (vs : List Vec3) (out : List ℕ) where
-  pub no-room : {r : ℕ} → length out < 24 * length vs → r ≡ refusalOf 5 → left r out ≡ leave (answer n vs) out
+  pub no-room : {r : ℕ} → length out < 24 * length vs → r ≡ refusalOf 5 → outcome r out ≡ leave (answer n vs) out
   unfolding leave
   no-room h e = rw (lt-ltb _ _ h, e)
 
-  pub room : {z : List ℕ} → 24 * length vs ≤ length out → z ≡ sets out 0 (valueBytes vs) → left n z ≡ leave (answer n vs) out
+  pub room : {z : List ℕ} → 24 * length vs ≤ length out → z ≡ sets out 0 (valueBytes vs) → outcome n z ≡ leave (answer n vs) out
   unfolding leave
   room h e = rw (le-ltb _ _ h, e)
 
 -- ---- a refusal comes before an answer
 module _ {f g : ℕ} (t : Told) (e : f ≡ g) where
-  pub gone : {r : ℕ} (out : List ℕ) → (f ≡ 0 → ⊥) → r ≡ refusalOf f → left r out ≡ leave (judged g t) out
+  pub gone : {r : ℕ} (out : List ℕ) → (f ≡ 0 → ⊥) → r ≡ refusalOf f → outcome r out ≡ leave (judged g t) out
   unfolding leave
   gone out h q = rw (← judged-hit t e h, q)
 
-  pub went-on : {x : Left ℕ} {u : Told} (out : List ℕ) → f ≡ 0 → u ≡ t → x ≡ leave u out → x ≡ leave (judged g t) out
+  pub went-on : {x : Outcome ℕ} {u : Told} (out : List ℕ) → f ≡ 0 → u ≡ t → x ≡ leave u out → x ≡ leave (judged g t) out
   went-on out z p q = rw (← judged-none t e z p) q
 
   pub gone-number : {r : ℕ} → (f ≡ 0 → ⊥) → r ≡ refusalOf f → r ≡ numberOf (judged g t)

@@ -2,7 +2,6 @@
 -- before it, the second arc's after all of the first's; `desk_arc` judges both lengths before 3 and 4"; 5 "by the bytes that the answer writes"; "Nothing is
 -- written on a refusal, nothing past a result". Definitions only.
 use Prim.Native.Nat.{ℕ, _*_}
-use mathlib.Core.Bool.{Bool}
 use mathlib.Core.List.{List, [], _∷_, _++_}
 use lib.ListN.{length}
 use lib.Seq.{sets}
@@ -13,7 +12,7 @@ use Rattle.vec3.specs.declared.Vec3.{Vec3}
 use Rattle.wire.specs.Wire.{vecOf, vecBytes}
 use Rattle.minor_arc.specs.declared.MinorArc.{MinorArc}
 use Rattle.arcs.specs.Answers.{Told, refused, answer, judged, arcFault, newAnswer, oppositeAnswer, sideAnswer, containsAnswer, intersectionAnswer, relateAnswer}
-use Rattle.bytes_loop.specs.Left.{Left, left, refusalOf}
+use Rattle.bytes_loop.specs.Outcome.{Outcome, outcome, refusalOf}
 use Rattle.bytes_loop.specs.Layout.{sizeFault}
 
 abbrev pub arcAt : List ℕ → MinorArc
@@ -57,6 +56,6 @@ abbrev pub valueBytes : List Vec3 → List ℕ
 valueBytes [] = []
 valueBytes (v ∷ vs) = vecBytes v ++ valueBytes vs
 
-unfoldable pub leave : Told → List ℕ → Left ℕ
-leave (refused f) out = left (refusalOf f) out
-leave (answer n vs) out = if ltb (length out) (24 * length vs) then left (refusalOf 5) out else left n (sets out 0 (valueBytes vs))
+unfoldable pub leave : Told → List ℕ → Outcome ℕ
+leave (refused f) out = outcome (refusalOf f) out
+leave (answer n vs) out = if ltb (length out) (24 * length vs) then outcome (refusalOf 5) out else outcome n (sets out 0 (valueBytes vs))

@@ -1,10 +1,10 @@
 // The desk's functions on arcs, over bytes, for the exports. A position is 24 bytes, an arc 72: start, end, normal.
 ghost use mathlib.Core.Path.{_≡_};
 ghost use mathlib.Core.List.{[], _∷_};
-ghost use Prim.Native.Nat.{ℕ, _≤_};
+ghost use Prim.Native.Nat.{_≤_};
 ghost use lib.ListN.{length};
 ghost use Rattle.arcs.specs.Answers as Answers;
-ghost use Rattle.bytes_loop.specs.Left.{left};
+ghost use Rattle.bytes_loop.specs.Outcome.{outcome};
 ghost use Rattle.bytes_loop.specs.Layout.{sizeFault};
 ghost use Rattle.bytes_arcs.specs.Arcs as Arcs;
 use arcs::ArcMade;
@@ -16,7 +16,7 @@ use bytes_loop::refusal;
 use minor_arc::MinorArc;
 use vec3::Vec3;
 
-fn length_fault(s: &[u8], n: usize) -> u8
+fn size_fault(s: &[u8], n: usize) -> u8
     ensures { λ r. ⌜ r ≡ sizeFault (length (now (s .entry))) n ⌝ }
 {
     if s.len() == n { 0 } else { 1 }
@@ -47,13 +47,13 @@ fn arc_judged(s: &[u8]) -> u8
 fn next_judged(arc: &[u8], next: &[u8], n: usize) -> u8
     ensures { λ r. ⌜ r ≡ Arcs.nextJudged (now (arc .entry)) (now (next .entry)) n ⌝ }
 {
-    judge::first(arc_judged(arc), length_fault(next, n))
+    judge::first(arc_judged(arc), size_fault(next, n))
 }
 
 fn ends_judged(start: &[u8], end: &[u8]) -> u8
     ensures { λ r. ⌜ r ≡ Arcs.endsJudged (now (start .entry)) (now (end .entry)) ⌝ }
 {
-    judge::first(length_fault(start, 24), length_fault(end, 24))
+    judge::first(size_fault(start, 24), size_fault(end, 24))
 }
 
 // What an answer without values comes to.
@@ -80,7 +80,7 @@ fn held(c: Contained) -> u32
 
 // A position or an arc written for an answer, or refusal 5 where there is no room for it.
 fn leave_point(out: &mut [u8], number: u32, p: Vec3) -> u32
-    ensures { λ r. ⌜ left r (now (out .exit)) ≡ Arcs.leave (Answers.answer number (p ∷ [])) (now (out .entry)) ⌝ }
+    ensures { λ r. ⌜ outcome r (now (out .exit)) ≡ Arcs.leave (Answers.answer number (p ∷ [])) (now (out .entry)) ⌝ }
 {
     if out.len() < 24 {
         return refusal(5);
@@ -90,7 +90,7 @@ fn leave_point(out: &mut [u8], number: u32, p: Vec3) -> u32
 }
 
 fn leave_arc(out: &mut [u8], number: u32, a: MinorArc) -> u32
-    ensures { λ r. ⌜ left r (now (out .exit)) ≡ Arcs.leave (Answers.answer number (Answers.vectors a)) (now (out .entry)) ⌝ }
+    ensures { λ r. ⌜ outcome r (now (out .exit)) ≡ Arcs.leave (Answers.answer number (Answers.vectors a)) (now (out .entry)) ⌝ }
 {
     if out.len() < 72 {
         return refusal(5);
@@ -102,7 +102,7 @@ fn leave_arc(out: &mut [u8], number: u32, a: MinorArc) -> u32
 }
 
 fn leave_made(out: &mut [u8], m: ArcMade) -> u32
-    ensures { λ r. ⌜ left r (now (out .exit)) ≡ Arcs.leave (Answers.toldMade m) (now (out .entry)) ⌝ }
+    ensures { λ r. ⌜ outcome r (now (out .exit)) ≡ Arcs.leave (Answers.toldMade m) (now (out .entry)) ⌝ }
 {
     match m {
         ArcMade::Refused(f) => refusal(f),
@@ -111,7 +111,7 @@ fn leave_made(out: &mut [u8], m: ArcMade) -> u32
 }
 
 fn leave_met(out: &mut [u8], m: Met) -> u32
-    ensures { λ r. ⌜ left r (now (out .exit)) ≡ Arcs.leave (Answers.toldMet m) (now (out .entry)) ⌝ }
+    ensures { λ r. ⌜ outcome r (now (out .exit)) ≡ Arcs.leave (Answers.toldMet m) (now (out .entry)) ⌝ }
 {
     match m {
         Met::Refused(f) => refusal(f),
@@ -121,7 +121,7 @@ fn leave_met(out: &mut [u8], m: Met) -> u32
 }
 
 fn leave_related(out: &mut [u8], x: ArcRelated) -> u32
-    ensures { λ r. ⌜ left r (now (out .exit)) ≡ Arcs.leave (Answers.toldRelated x) (now (out .entry)) ⌝ }
+    ensures { λ r. ⌜ outcome r (now (out .exit)) ≡ Arcs.leave (Answers.toldRelated x) (now (out .entry)) ⌝ }
 {
     match x {
         ArcRelated::Refused(f) => refusal(f),
@@ -133,7 +133,7 @@ fn leave_related(out: &mut [u8], x: ArcRelated) -> u32
 }
 
 pub fn make(start: &[u8], end: &[u8], out: &mut [u8]) -> u32
-    ensures { λ r. ⌜ left r (now (out .exit)) ≡ Arcs.leave (Arcs.arcTold (now (start .entry)) (now (end .entry))) (now (out .entry)) ⌝ }
+    ensures { λ r. ⌜ outcome r (now (out .exit)) ≡ Arcs.leave (Arcs.arcTold (now (start .entry)) (now (end .entry))) (now (out .entry)) ⌝ }
 {
     let f = ends_judged(start, end);
     if f != 0 {
@@ -143,7 +143,7 @@ pub fn make(start: &[u8], end: &[u8], out: &mut [u8]) -> u32
 }
 
 pub fn opposite(arc: &[u8], out: &mut [u8]) -> u32
-    ensures { λ r. ⌜ left r (now (out .exit)) ≡ Arcs.leave (Arcs.oppositeTold (now (arc .entry))) (now (out .entry)) ⌝ }
+    ensures { λ r. ⌜ outcome r (now (out .exit)) ≡ Arcs.leave (Arcs.oppositeTold (now (arc .entry))) (now (out .entry)) ⌝ }
 {
     if arc.len() != 72 {
         return refusal(1);
@@ -172,7 +172,7 @@ pub fn contains(arc: &[u8], position: &[u8]) -> u32
 }
 
 pub fn intersection(a: &[u8], b: &[u8], out: &mut [u8]) -> u32
-    ensures { λ r. ⌜ left r (now (out .exit)) ≡ Arcs.leave (Arcs.intersectionTold (now (a .entry)) (now (b .entry))) (now (out .entry)) ⌝ }
+    ensures { λ r. ⌜ outcome r (now (out .exit)) ≡ Arcs.leave (Arcs.intersectionTold (now (a .entry)) (now (b .entry))) (now (out .entry)) ⌝ }
 {
     let f = next_judged(a, b, 72);
     if f != 0 {
@@ -182,7 +182,7 @@ pub fn intersection(a: &[u8], b: &[u8], out: &mut [u8]) -> u32
 }
 
 pub fn relate(a: &[u8], b: &[u8], out: &mut [u8]) -> u32
-    ensures { λ r. ⌜ left r (now (out .exit)) ≡ Arcs.leave (Arcs.relateTold (now (a .entry)) (now (b .entry))) (now (out .entry)) ⌝ }
+    ensures { λ r. ⌜ outcome r (now (out .exit)) ≡ Arcs.leave (Arcs.relateTold (now (a .entry)) (now (b .entry))) (now (out .entry)) ⌝ }
 {
     let f = next_judged(a, b, 72);
     if f != 0 {

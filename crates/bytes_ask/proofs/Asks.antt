@@ -1,31 +1,30 @@
 -- A loop in bytes that is refused ahead of being copied, and one that is copied. Assumes nothing.
 use Prim.Native.Nat.{ℕ, zero, suc, _+_, _-_, _*_, _%_, _≤_, _<_}
-use mathlib.Core.Path.{_≡_, refl, sym, ap, _∙_}
+use mathlib.Core.Path.{_≡_, refl, sym, _∙_}
 use mathlib.Core.Bool.{Bool, true, false, _&&_, cond}
-use mathlib.Core.List.{List, [], _∷_}
+use mathlib.Core.List.{List}
 use native.Mathlib.Omega.{arith}
 use lib.ListN.{length, take, drop, length-drop}
-use lib.Dec.{ltb, leb, eqb}
+use lib.Dec.{ltb}
 use lib.Ieee.{Float}
-use borrow.Author.Tests.{eq-eqb, ne-eqb, lt-ltb, le-ltb, le-leb, ltb-true}
+use borrow.Author.Tests.{eq-eqb, ne-eqb, lt-ltb, le-leb, ltb-true}
 use Rattle.laws.specs.Loop.{first}
-use Rattle.laws.proofs.Firsts.{first-zero}
 use Rattle.laws.proofs.Rests.{rest}
 use Rattle.vec3.specs.declared.Vec3.{Vec3}
 use Rattle.loop_header.specs.declared.State.{State}
 use Rattle.loop_header.specs.declared.State.the-variants.{Empty, Full, Ring}
 use Rattle.loop_header.specs.declared.Header.{Header}
-use Rattle.loop_header.specs.Loops.{countFits, threesOf, shapeFault, ringFault, classesFault, cutFault, checkFault, loopFault}
-use Rattle.loop_ask.specs.Answers.{Told, refused, answer, judged}
+use Rattle.loop_header.specs.Loops.{countFits, threesOf, shapeFault, ringFault, cutFault, checkFault, loopFault}
+use Rattle.loop_ask.specs.Answers.{Told, refused, judged}
 use Rattle.loop_ask.specs.Questions.{queryFault, placeAnswer, vertexAnswer, onEdgeAnswer, convexAnswer, simpleAnswer}
 use Rattle.wire.specs.Wire.{vecOf}
-use Rattle.bytes_loop.specs.Left.{refusalOf}
-use Rattle.bytes_loop.specs.Layout.{countAt, stateByte, stateOf, headerAt, floatsAt, positionsAt, normalsAt, classesAt, sizeFault, headerFault, frameFault, largeFault, manyFault, copyFault}
+use Rattle.bytes_loop.specs.Outcome.{refusalOf}
+use Rattle.bytes_loop.specs.Layout.{countAt, stateByte, stateOf, headerAt, floatsAt, positionsAt, normalsAt, classesAt, frameFault, largeFault, manyFault, copyFault}
 use Rattle.bytes_loop.proofs.Lays.{floats-length}
 use Rattle.bytes_loop.proofs.Faults.{wrong-size, right-size, frame-size, Copyable, copyable}
 use Rattle.bytes_ask.specs.declared.Question.{Question}
 use Rattle.bytes_ask.specs.declared.Question.the-variants.{Place, Vertex, OnEdge, Convex, Simple}
-use Rattle.bytes_ask.specs.Ask.{numberOf, toldAt, needsPosition, lengthFault, toldBy, askTold, Arrays}
+use Rattle.bytes_ask.specs.Ask.{numberOf, toldAt, needsPosition, toldBy, askTold, Arrays}
 
 -- ---- sizes of a loop's parts
 pub classes-length : (s : List ℕ) → length s ≡ 88 + 49 * countAt s → length (classesAt s) ≡ countAt s

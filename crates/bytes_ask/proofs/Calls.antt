@@ -1,8 +1,8 @@
 -- A refusal comes before an answer's number. Assumes nothing.
 use Prim.Native.Nat.{ℕ, zero, suc}
-use mathlib.Core.Path.{_≡_, refl, sym, ap, _∙_}
+use mathlib.Core.Path.{_≡_, refl, _∙_}
 use Rattle.loop_ask.specs.Answers.{Told, refused, judged}
-use Rattle.bytes_loop.specs.Left.{refusalOf}
+use Rattle.bytes_loop.specs.Outcome.{refusalOf}
 use Rattle.bytes_ask.specs.Ask.{numberOf}
 
 hit : (g : ℕ) (t : Told) → (g ≡ 0 → ⊥) → refused g ≡ judged g t

@@ -13,7 +13,7 @@ use Rattle.loop_header.specs.Loops.{loopFault}
 use Rattle.loop_ask.specs.Answers.{Told, refused, answer, judged}
 use Rattle.loop_ask.specs.Questions.{placeAnswer, vertexAnswer, onEdgeAnswer, convexAnswer, simpleAnswer}
 use Rattle.wire.specs.Wire.{vecOf}
-use Rattle.bytes_loop.specs.Left.{refusalOf}
+use Rattle.bytes_loop.specs.Outcome.{refusalOf}
 use Rattle.bytes_loop.specs.Layout.{countAt, headerAt, positionsAt, normalsAt, classesAt, sizeFault, headerFault, frameFault}
 use Rattle.bytes_ask.specs.declared.Question.{Question}
 use Rattle.bytes_ask.specs.declared.Question.the-variants.{Place, Vertex, OnEdge, Convex, Simple}

@@ -1,6 +1,6 @@
 // Questions put to loops in bytes. The floats are copied into work arrays, the classes are read where they stand.
 ghost use mathlib.Core.Path.{_≡_};
-ghost use Prim.Native.Nat.{_+_, _*_, _≤_, _<_};
+ghost use Prim.Native.Nat.{_+_, _*_};
 ghost use lib.ListN.{length};
 ghost use Rattle.loop_ask.specs.Answers as An;
 ghost use Rattle.bytes_ask.specs.Ask as As;

@@ -1,5 +1,5 @@
 -- A loop that was built in arrays, and its bytes. Assumes nothing.
-use Prim.Native.Nat.{ℕ, zero, suc, _+_, _-_, _*_, _/_, _%_, _≤_, _<_}
+use Prim.Native.Nat.{ℕ, zero, suc, _+_, _*_, _/_, _%_, _≤_, _<_}
 use mathlib.Core.Path.{_≡_, refl, sym, ap, _∙_, subst}
 use mathlib.Core.Logic.{_⊎_, inl, inr}
 use mathlib.Core.Bool.{Bool, true, false, _&&_, _||_, cond}
@@ -18,12 +18,12 @@ use Rattle.loop_header.specs.declared.Header.{Header}
 use Rattle.loop_build.specs.Build as B
 use Rattle.loop_build.proofs.Rooms.{list-fine}
 use Rattle.loop_build.proofs.Rooms as R
-use Rattle.bytes_loop.specs.Left.{Left, left, refusalOf}
+use Rattle.bytes_loop.specs.Outcome.{Outcome, outcome, refusalOf}
 use Rattle.bytes_loop.specs.Layout.{floatsAt, floatsBytes, headerBytes}
-use Rattle.bytes_loop.proofs.Faults.{by-left}
+use Rattle.bytes_loop.proofs.Faults.{by-outcome}
 use Rattle.bytes_loop.proofs.Lays.{two, floats-width, header-width, floats-length}
-use Rattle.bytes_build.specs.Build.{madeIf, madeOf, loopBytes, needFault, builtLeft, buildLeft, listAt, roomOf, Roomy, Fitting, front, loopLeft, outLeft, headerLeft, floatsLeft, shortHeader, Counted}
-use Rattle.bytes_build.proofs.Rooms.{Behind, behind, need-none, need-header, same-refusal, fits, fine, no-need, header-need}
+use Rattle.bytes_build.specs.Build.{madeIf, madeOf, loopBytes, builtOutcome, buildOutcome, listAt, roomOf, Roomy, Fitting, front, loopOutcome, outOutcome, headerOutcome, floatsOutcome, shortHeader, Counted}
+use Rattle.bytes_build.proofs.Rooms.{behind, need-none, need-header, same-refusal, fits, fine, no-need, header-need}
 
 -- ---- the front of what was written is the loop
 abbrev emptied : {A : Type 0} → List A → List A
@@ -50,12 +50,12 @@ module _ (l : List Float) (n : ℕ) where
   same-header false t ps ns cs = refl
 
   module _ (ps ns : List Float) (cs : List ℕ) where
-    header-is : (b : Bool) → B.outIf b l n ps ns cs .answer ≡ B.loop (madeIf b l n .header)
+    header-is : (b : Bool) → B.outcomeIf b l n ps ns cs .answer ≡ B.loop (madeIf b l n .header)
     unfolding B.made
     header-is true = refl
     header-is false = ap B.loop (same-header (allBoth (classesOf l n (reversal l n))) (reversal l n) ps ns cs)
 
-    front-is : (b : Bool) → let x = B.outIf b l n ps ns cs in front (madeIf b l n .header) (x .positions) (x .normals) (x .classes) ≡ madeIf b l n
+    front-is : (b : Bool) → let x = B.outcomeIf b l n ps ns cs in front (madeIf b l n .header) (x .positions) (x .normals) (x .classes) ≡ madeIf b l n
     unfolding B.made
     front-is true = refl
     front-is false = rw (← same-header (allBoth (classesOf l n (reversal l n))) (reversal l n) ps ns cs) (front-made (allBoth (classesOf l n (reversal l n))) (reversal l n) ps ns cs)
@@ -71,53 +71,53 @@ module _ (l : List Float) (n : ℕ) where
 
 -- ---- the answer tells whether there was a refusal
 module _ (l ps ns : List Float) (cs : List ℕ) where
-  refused-is : (k f : ℕ) → B.refused f ≡ B.outBy k l ps ns cs .answer → (f ≡ k) × (k ≡ 0 → ⊥)
+  refused-is : (k f : ℕ) → B.refused f ≡ B.outcomeBy k l ps ns cs .answer → (f ≡ k) × (k ≡ 0 → ⊥)
   refused-is zero f e =
       let g = e ∙ header-is l (B.openedCount l) ps ns cs (ltb (B.openedCount l) 3) in
       let z : _≡_ {A = ℕ} 0 1 = cc in
       absurd (omega arith)
   refused-is (suc k) f e = ((cc), λ z. omega arith)
 
-  looped-is : (k : ℕ) (h : Header) → B.loop h ≡ B.outBy k l ps ns cs .answer → k ≡ 0
+  looped-is : (k : ℕ) (h : Header) → B.loop h ≡ B.outcomeBy k l ps ns cs .answer → k ≡ 0
   looped-is zero h e = refl
   looped-is (suc k) h e = let z : _≡_ {A = ℕ} 0 1 = cc in absurd (omega arith)
 
 module _ (l ps ns : List Float) (cs out : List ℕ) (w : Roomy (length out) (length ps) (length ns) (length cs)) {ps′ ns′ : List Float} {cs′ : List ℕ} where
-  pub was-refused : {f r : ℕ} → record { answer = B.refused f; positions = ps′; normals = ns′; classes = cs′ } ≡ B.out l ps ns cs → r ≡ refusalOf f → left r out ≡ builtLeft l out
-  unfolding B.out builtLeft
+  pub was-refused : {f r : ℕ} → record { answer = B.refused f; positions = ps′; normals = ns′; classes = cs′ } ≡ B.buildOutcome l ps ns cs → r ≡ refusalOf f → outcome r out ≡ builtOutcome l out
+  unfolding B.buildOutcome builtOutcome
   was-refused {f} e q =
-      let a = refused-is l ps ns cs (B.refusal l ps ns cs) f (ap (λ (x : B.Out). x .answer) e) in
-      rw (q, same-refusal l ps ns cs (length out) w (a .1), ← a .0) (by-left f out _ (λ z. a .1 (sym (a .0) ∙ z)))
+      let a = refused-is l ps ns cs (B.refusal l ps ns cs) f (ap (λ (x : B.Outcome). x .answer) e) in
+      rw (q, same-refusal l ps ns cs (length out) w (a .1), ← a .0) (by-outcome f out _ (λ z. a .1 (sym (a .0) ∙ z)))
 
-  module _ {h : Header} (e : record { answer = B.loop h; positions = ps′; normals = ns′; classes = cs′ } ≡ B.out l ps ns cs) where
+  module _ {h : Header} (e : record { answer = B.loop h; positions = ps′; normals = ns′; classes = cs′ } ≡ B.buildOutcome l ps ns cs) where
     none : B.refusal l ps ns cs ≡ 0
-    unfolding B.out
-    none = looped-is l ps ns cs (B.refusal l ps ns cs) h (ap (λ (x : B.Out). x .answer) e)
+    unfolding B.buildOutcome
+    none = looped-is l ps ns cs (B.refusal l ps ns cs) h (ap (λ (x : B.Outcome). x .answer) e)
 
-    whole : record { answer = B.loop h; positions = ps′; normals = ns′; classes = cs′ } ≡ B.outIf (ltb (B.openedCount l) 3) l (B.openedCount l) ps ns cs
-    unfolding B.out
-    whole = e ∙ ap (λ (k : ℕ). B.outBy k l ps ns cs) none
+    whole : record { answer = B.loop h; positions = ps′; normals = ns′; classes = cs′ } ≡ B.outcomeIf (ltb (B.openedCount l) 3) l (B.openedCount l) ps ns cs
+    unfolding B.buildOutcome
+    whole = e ∙ ap (λ (k : ℕ). B.outcomeBy k l ps ns cs) none
 
     header-of : h ≡ madeOf l .header
     unfolding madeOf
-    header-of = let g = ap (λ (x : B.Out). x .answer) whole ∙ header-is l (B.openedCount l) ps ns cs (ltb (B.openedCount l) 3) in cc
+    header-of = let g = ap (λ (x : B.Outcome). x .answer) whole ∙ header-is l (B.openedCount l) ps ns cs (ltb (B.openedCount l) 3) in cc
 
     front-of : front h ps′ ns′ cs′ ≡ madeOf l
     unfolding madeOf
-    front-of = rw (header-of, ap (λ (x : B.Out). x .positions) whole, ap (λ (x : B.Out). x .normals) whole, ap (λ (x : B.Out). x .classes) whole) (front-is l (B.openedCount l) ps ns cs (ltb (B.openedCount l) 3))
+    front-of = rw (header-of, ap (λ (x : B.Outcome). x .positions) whole, ap (λ (x : B.Outcome). x .normals) whole, ap (λ (x : B.Outcome). x .classes) whole) (front-is l (B.openedCount l) ps ns cs (ltb (B.openedCount l) 3))
 
-    short : length out < 88 → loopLeft h ps′ ns′ cs′ out ≡ builtLeft l out
-    unfolding loopLeft builtLeft
+    short : length out < 88 → loopOutcome h ps′ ns′ cs′ out ≡ builtOutcome l out
+    unfolding loopOutcome builtOutcome
     short g = rw (lt-ltb _ _ g, header-need l ps ns cs (length out) w none g)
 
-    long : 88 ≤ length out → loopLeft h ps′ ns′ cs′ out ≡ builtLeft l out
-    unfolding loopLeft builtLeft
-    long g = rw (le-ltb _ _ g, no-need l ps ns cs (length out) w none g) (ap (λ (m : B.Made). left (m .header .count) (sets out 0 (loopBytes m))) front-of)
+    long : 88 ≤ length out → loopOutcome h ps′ ns′ cs′ out ≡ builtOutcome l out
+    unfolding loopOutcome builtOutcome
+    long g = rw (le-ltb _ _ g, no-need l ps ns cs (length out) w none g) (ap (λ (m : B.Made). outcome (m .header .count) (sets out 0 (loopBytes m))) front-of)
 
-    pub was-written : {x : Left ℕ} → x ≡ loopLeft h ps′ ns′ cs′ out → x ≡ builtLeft l out
+    pub was-written : {x : Outcome ℕ} → x ≡ loopOutcome h ps′ ns′ cs′ out → x ≡ builtOutcome l out
     was-written q = q ∙ at (ltb (length out) 88) refl
       where
-        at : (b : Bool) → ltb (length out) 88 ≡ b → loopLeft h ps′ ns′ cs′ out ≡ builtLeft l out
+        at : (b : Bool) → ltb (length out) 88 ≡ b → loopOutcome h ps′ ns′ cs′ out ≡ builtOutcome l out
         at true t = short (ltb-true _ _ t)
         at false t = long (ltb-false _ _ t)
 
@@ -148,8 +148,8 @@ module _ (h : Header) (ps ns : List Float) (cs out : List ℕ) (f : Fitting h (l
 
   pub stored : {x y z t : List ℕ} → 88 ≤ length out → x ≡ sets out 0 (headerBytes h) → y ≡ sets x 88 (floatsBytes (take (3 * h .count) ps))
       → z ≡ sets y (88 + 24 * h .count) (floatsBytes (take (3 * h .count) ns)) → t ≡ sets z (88 + 48 * h .count) (take (h .count) cs)
-      → left (h .count) t ≡ loopLeft h ps ns cs out
-  unfolding loopLeft
+      → outcome (h .count) t ≡ loopOutcome h ps ns cs out
+  unfolding loopOutcome
   stored g a b c d =
       let H = headerBytes h in
       let P = floatsBytes (take (3 * h .count) ps) in
@@ -163,13 +163,13 @@ module _ (h : Header) (ps ns : List Float) (cs out : List ℕ) (f : Fitting h (l
       rw (le-ltb _ _ g, t₂)
 
 -- ---- lists in bytes
-pub unread : (s : List ℕ) (out : List ℕ) {r : ℕ} → (length s % 24 ≡ 0 → ⊥) → r ≡ refusalOf 1 → left r out ≡ buildLeft s out
-unfolding buildLeft
+pub unread : (s : List ℕ) (out : List ℕ) {r : ℕ} → (length s % 24 ≡ 0 → ⊥) → r ≡ refusalOf 1 → outcome r out ≡ buildOutcome s out
+unfolding buildOutcome
 unread s out h e = rw (ne-eqb _ _ h, e)
 
 module _ (s out : List ℕ) (h : length s % 24 ≡ 0) where
-  pub in-bytes : {x : Left ℕ} → x ≡ builtLeft (listAt s) out → x ≡ buildLeft s out
-  unfolding buildLeft
+  pub in-bytes : {x : Outcome ℕ} → x ≡ builtOutcome (listAt s) out → x ≡ buildOutcome s out
+  unfolding buildOutcome
   in-bytes q = rw (eq-eqb _ _ h) q
 
   too-many : 512 < length s / 24 → B.listFault (listAt s) ≡ 2
@@ -180,11 +180,11 @@ module _ (s out : List ℕ) (h : length s % 24 ≡ 0) where
       let b : 512 < length s / 8 / 3 = omega arith in
       rw (e, eq-eqb _ _ a, lt-ltb _ _ b)
 
-  pub too-long : {r : ℕ} → 512 < length s / 24 → r ≡ refusalOf 2 → left r out ≡ buildLeft s out
-  unfolding builtLeft
+  pub too-long : {r : ℕ} → 512 < length s / 24 → r ≡ refusalOf 2 → outcome r out ≡ buildOutcome s out
+  unfolding builtOutcome
   too-long g e = in-bytes (rw (too-many g, e))
 
-pub read-list : (s out : List ℕ) (n : ℕ) {l : List Float} {x : Left ℕ} → l ≡ floatsAt s 0 n → 8 * n ≡ length s → x ≡ builtLeft l out → x ≡ builtLeft (listAt s) out
+pub read-list : (s out : List ℕ) (n : ℕ) {l : List Float} {x : Outcome ℕ} → l ≡ floatsAt s 0 n → 8 * n ≡ length s → x ≡ builtOutcome l out → x ≡ builtOutcome (listAt s) out
 read-list s out n e h q =
     let k : length s / 8 ≡ n = omega arith in
     rw (k, ← e) q
@@ -219,29 +219,29 @@ module _ (l ps ns : List Float) (cs header : List ℕ) where
   unfolding B.refusal
   short-five = one-five (B.listFault l) _ (five-or-none (B.openedCount l) (length ps) (length ns) (length cs))
 
-  pub unheaded : {r : ℕ} → length header < 88 → r ≡ shortHeader l → record { number = r; header = header; positions = ps; normals = ns; classes = cs } ≡ floatsLeft l header ps ns cs
-  unfolding floatsLeft
+  pub unheaded : {r : ℕ} → length header < 88 → r ≡ shortHeader l → record { number = r; header = header; positions = ps; normals = ns; classes = cs } ≡ floatsOutcome l header ps ns cs
+  unfolding floatsOutcome
   unheaded g q = rw (need-header (length header) 0 g, short-five, q) (at (B.listFault l))
     where
-      at : (f : ℕ) → record { number = refusalOf (first f 5); header = header; positions = ps; normals = ns; classes = cs } ≡ outLeft (B.outBy (first f 5) l ps ns cs) header
+      at : (f : ℕ) → record { number = refusalOf (first f 5); header = header; positions = ps; normals = ns; classes = cs } ≡ outOutcome (B.outcomeBy (first f 5) l ps ns cs) header
       at zero = refl
       at (suc f) = refl
 
-  room-above : 88 ≤ length header → floatsLeft l header ps ns cs ≡ outLeft (B.out l ps ns cs) header
-  unfolding floatsLeft B.out
+  room-above : 88 ≤ length header → floatsOutcome l header ps ns cs ≡ outOutcome (B.buildOutcome l ps ns cs) header
+  unfolding floatsOutcome B.buildOutcome
   room-above g = rw (need-none (length header) 0 g (λ (z : 3 ≤ 0). absurd (omega arith)), first-none (B.refusal l ps ns cs))
 
-  counted-by : (k : ℕ) → B.refusal l ps ns cs ≡ k → Counted (B.outBy k l ps ns cs .answer)
+  counted-by : (k : ℕ) → B.refusal l ps ns cs ≡ k → Counted (B.outcomeBy k l ps ns cs .answer)
   counted-by (suc k) e = tt
   counted-by zero e =
       let m = list-fine l (R.fine l ps ns cs e .0) in
       subst (λ (x : B.Told). Counted x) (sym (header-is l (B.openedCount l) ps ns cs (ltb (B.openedCount l) 3))) (omega (arith, m .small, count-most l (B.openedCount l) (ltb (B.openedCount l) 3)))
 
-  module _ {u : B.Told} {ps′ ns′ : List Float} {cs′ : List ℕ} (e : record { answer = u; positions = ps′; normals = ns′; classes = cs′ } ≡ B.out l ps ns cs) where
+  module _ {u : B.Told} {ps′ ns′ : List Float} {cs′ : List ℕ} (e : record { answer = u; positions = ps′; normals = ns′; classes = cs′ } ≡ B.buildOutcome l ps ns cs) where
     pub counted-told : Counted u
-    unfolding B.out
-    counted-told = subst (λ (x : B.Told). Counted x) (sym (ap (λ (o : B.Out). o .answer) e)) (counted-by (B.refusal l ps ns cs) refl)
+    unfolding B.buildOutcome
+    counted-told = subst (λ (x : B.Told). Counted x) (sym (ap (λ (o : B.Outcome). o .answer) e)) (counted-by (B.refusal l ps ns cs) refl)
 
-    pub headed : {r : ℕ} {header′ : List ℕ} → 88 ≤ length header → left r header′ ≡ headerLeft u header
-        → record { number = r; header = header′; positions = ps′; normals = ns′; classes = cs′ } ≡ floatsLeft l header ps ns cs
-    headed g q = rw (room-above g, ap (λ (x : Left ℕ). x .number) q, ap (λ (x : Left ℕ). x .out) q) (ap (λ (o : B.Out). outLeft o header) e)
+    pub headed : {r : ℕ} {header′ : List ℕ} → 88 ≤ length header → outcome r header′ ≡ headerOutcome u header
+        → record { number = r; header = header′; positions = ps′; normals = ns′; classes = cs′ } ≡ floatsOutcome l header ps ns cs
+    headed g q = rw (room-above g, ap (λ (x : Outcome ℕ). x .number) q, ap (λ (x : Outcome ℕ). x .out) q) (ap (λ (o : B.Outcome). outOutcome o header) e)

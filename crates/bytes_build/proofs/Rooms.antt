@@ -1,7 +1,7 @@
 -- Room for a loop in bytes, counted in corners. Assumes nothing.
 use Prim.Native.Nat.{ℕ, zero, suc, _+_, _-_, _*_, _/_, _≤_, _<_}
-use mathlib.Core.Path.{_≡_, refl, sym, ap, _∙_}
-use mathlib.Core.Bool.{Bool, true, false, _&&_, _||_, cond}
+use mathlib.Core.Path.{_≡_, refl, sym, _∙_}
+use mathlib.Core.Bool.{Bool, true, false, _&&_, cond}
 use mathlib.Core.List.{List}
 use native.Mathlib.Omega.{arith}
 use lib.ListN.{length}
@@ -12,7 +12,7 @@ use Rattle.numbers.specs.Choice.{if_then_else_}
 use Rattle.laws.specs.Loop.{first}
 use Rattle.laws.proofs.Firsts.{first-zero}
 use Rattle.loop_build.specs.Build.{listFault, roomFault, openedCount, refusal}
-use Rattle.loop_build.proofs.Rooms.{Listed, list-fine, Room, room}
+use Rattle.loop_build.proofs.Rooms.{list-fine, room}
 use Rattle.bytes_build.specs.Build.{corners, needFault, roomOf, Roomy}
 
 pub record Behind (size r : ℕ) : Type 0 where

@@ -1,6 +1,6 @@
 -- Building over bytes, and over floats with the header in bytes. "`desk_build(list, out)`: count of the loop written to `out` (0 for empty and full, whose 88 bytes are written)"; refusal 5: "`out` of
 -- `desk_build` shorter than 88 + 49n (n the opened count, 0 below three; so below 88 for an empty loop too)". Definitions only.
-use Prim.Native.Nat.{ℕ, zero, suc, _+_, _-_, _*_, _/_, _%_, _≤_}
+use Prim.Native.Nat.{ℕ, _+_, _-_, _*_, _/_, _%_, _≤_}
 use mathlib.Core.Path.{_≡_}
 use mathlib.Core.Bool.{Bool, true, false, cond}
 use mathlib.Core.List.{List, [], _++_}
@@ -14,7 +14,7 @@ use Rattle.loop_header.specs.declared.Header.{Header}
 use Rattle.loop_header.specs.Loops.{emptyHeader}
 use Rattle.loop_build.specs.Build.{listFault, openedCount, Made, made}
 use Rattle.loop_build.specs.Build as B
-use Rattle.bytes_loop.specs.Left.{Left, left, refusalOf, leftBy}
+use Rattle.bytes_loop.specs.Outcome.{Outcome, outcome, refusalOf, outcomeBy}
 use Rattle.bytes_loop.specs.Layout.{floatsAt, headerBytes, floatsBytes}
 
 -- the loop of a list: its header and its three lists
@@ -37,42 +37,42 @@ unfoldable pub needFault : ℕ → ℕ → ℕ
 needFault size n = cond (ltb size (88 + 49 * corners n)) 5 0
 
 -- of a list of floats
-unfoldable pub builtLeft : List Float → List ℕ → Left ℕ
-builtLeft l out =
-    leftBy (first (listFault l) (needFault (length out) (openedCount l))) out
-    (left (madeOf l .header .count) (sets out 0 (loopBytes (madeOf l))))
+unfoldable pub builtOutcome : List Float → List ℕ → Outcome ℕ
+builtOutcome l out =
+    outcomeBy (first (listFault l) (needFault (length out) (openedCount l))) out
+    (outcome (madeOf l .header .count) (sets out 0 (loopBytes (madeOf l))))
 
 -- of a list in bytes, 24 a position
 abbrev pub listAt : List ℕ → List Float
 listAt s = floatsAt s 0 (length s / 8)
 
-unfoldable pub buildLeft : List ℕ → List ℕ → Left ℕ
-buildLeft s out = leftBy (cond (eqb (length s % 24) 0) 0 1) out (builtLeft (listAt s) out)
+unfoldable pub buildOutcome : List ℕ → List ℕ → Outcome ℕ
+buildOutcome s out = outcomeBy (cond (eqb (length s % 24) 0) 0 1) out (builtOutcome (listAt s) out)
 
 -- with the header alone in bytes: what building leaves in the three slices, and its header
-pub record FloatsLeft : Type 0 where
+pub record FloatsOutcome : Type 0 where
   pub number : ℕ
   pub header : List ℕ
   pub positions : List Float
   pub normals : List Float
   pub classes : List ℕ
 
-abbrev pub headerLeft : B.Told → List ℕ → Left ℕ
-headerLeft (B.refused f) header = left (refusalOf f) header
-headerLeft (B.loop h) header = left (h .count) (sets header 0 (headerBytes h))
+abbrev pub headerOutcome : B.Told → List ℕ → Outcome ℕ
+headerOutcome (B.refused f) header = outcome (refusalOf f) header
+headerOutcome (B.loop h) header = outcome (h .count) (sets header 0 (headerBytes h))
 
-abbrev pub outLeft : B.Out → List ℕ → FloatsLeft
-outLeft o header = record {
-  number = headerLeft (o .answer) header .number;
-  header = headerLeft (o .answer) header .out;
+abbrev pub outOutcome : B.Outcome → List ℕ → FloatsOutcome
+outOutcome o header = record {
+  number = headerOutcome (o .answer) header .number;
+  header = headerOutcome (o .answer) header .out;
   positions = o .positions;
   normals = o .normals;
   classes = o .classes;
 }
 
 -- "the `_f64` header shorter than 88 or its slices too short"
-unfoldable pub floatsLeft : List Float → List ℕ → List Float → List Float → List ℕ → FloatsLeft
-floatsLeft l header ps ns cs = outLeft (B.outBy (first (B.refusal l ps ns cs) (needFault (length header) 0)) l ps ns cs) header
+unfoldable pub floatsOutcome : List Float → List ℕ → List Float → List Float → List ℕ → FloatsOutcome
+floatsOutcome l header ps ns cs = outOutcome (B.outcomeBy (first (B.refusal l ps ns cs) (needFault (length header) 0)) l ps ns cs) header
 
 -- ---- inner
 -- the refusal of a list whose header has no room
@@ -104,5 +104,5 @@ pub record Fitting (h : Header) (out positions normals classes : ℕ) : Type 0 w
 abbrev pub front : Header → List Float → List Float → List ℕ → Made
 front h ps ns cs = record { header = h; positions = take (3 * h .count) ps; normals = take (3 * h .count) ns; classes = take (h .count) cs }
 
-unfoldable pub loopLeft : Header → List Float → List Float → List ℕ → List ℕ → Left ℕ
-loopLeft h ps ns cs out = if ltb (length out) 88 then left (refusalOf 5) out else left (h .count) (sets out 0 (loopBytes (front h ps ns cs)))
+unfoldable pub loopOutcome : Header → List Float → List Float → List ℕ → List ℕ → Outcome ℕ
+loopOutcome h ps ns cs out = if ltb (length out) 88 then outcome (refusalOf 5) out else outcome (h .count) (sets out 0 (loopBytes (front h ps ns cs)))

@@ -3,7 +3,7 @@ ghost use mathlib.Core.Path.{_≡_};
 ghost use Prim.Native.Nat.{_+_, _*_, _-_, _≤_, _<_};
 ghost use lib.ListN.{length};
 ghost use Rattle.loop_build.specs.Build as B;
-ghost use Rattle.bytes_loop.specs.Left.{left};
+ghost use Rattle.bytes_loop.specs.Outcome.{outcome};
 ghost use Rattle.bytes_build.specs.Build as Bu;
 use bytes_loop::refusal;
 use loop_build::Built;
@@ -24,7 +24,7 @@ fn room_of(size: usize) -> usize
 // A loop written into bytes that have room for it, or refusal 5 where they cannot hold its header.
 fn leave_loop(out: &mut [u8], h: Header, positions: &[f64], normals: &[f64], classes: &[u8]) -> u32
     requires { ⌜ Bu.Fitting h (length (now out)) (length (now positions)) (length (now normals)) (length (now classes)) ⌝ }
-    ensures { λ r. ⌜ left r (now (out .exit)) ≡ Bu.loopLeft h (now (positions .entry)) (now (normals .entry)) (now (classes .entry)) (now (out .entry)) ⌝ }
+    ensures { λ r. ⌜ outcome r (now (out .exit)) ≡ Bu.loopOutcome h (now (positions .entry)) (now (normals .entry)) (now (classes .entry)) (now (out .entry)) ⌝ }
 {
     if out.len() < 88 {
         return refusal(5);
@@ -47,7 +47,7 @@ fn build_from(
     classes: &mut [u8],
 ) -> u32
     requires { ⌜ Bu.Roomy (length (now out)) (length (now positions)) (length (now normals)) (length (now classes)) ⌝ }
-    ensures { λ r. ⌜ left r (now (out .exit)) ≡ Bu.builtLeft (now (list .entry)) (now (out .entry)) ⌝ }
+    ensures { λ r. ⌜ outcome r (now (out .exit)) ≡ Bu.builtOutcome (now (list .entry)) (now (out .entry)) ⌝ }
 {
     let b = loop_build::build(list, positions, normals, classes);
     match b {
@@ -65,7 +65,7 @@ fn build_in(
     classes: &mut [u8],
 ) -> u32
     requires { ⌜ Bu.Roomy (length (now out)) (length (now positions)) (length (now normals)) (length (now classes)) × (8 * length (now floats) ≡ length (now list)) ⌝ }
-    ensures { λ r. ⌜ left r (now (out .exit)) ≡ Bu.builtLeft (Bu.listAt (now (list .entry))) (now (out .entry)) ⌝ }
+    ensures { λ r. ⌜ outcome r (now (out .exit)) ≡ Bu.builtOutcome (Bu.listAt (now (list .entry))) (now (out .entry)) ⌝ }
 {
     bytes_loop::read_floats(list, 0, floats);
     build_from(floats, out, positions, normals, classes)
@@ -73,7 +73,7 @@ fn build_in(
 
 // Builds a loop of positions in bytes into bytes.
 pub fn build(list: &[u8], out: &mut [u8]) -> u32
-    ensures { λ r. ⌜ left r (now (out .exit)) ≡ Bu.buildLeft (now (list .entry)) (now (out .entry)) ⌝ }
+    ensures { λ r. ⌜ outcome r (now (out .exit)) ≡ Bu.buildOutcome (now (list .entry)) (now (out .entry)) ⌝ }
 {
     if list.len() % 24 != 0 {
         return refusal(1);
@@ -102,7 +102,7 @@ pub fn build(list: &[u8], out: &mut [u8]) -> u32
 // A header in bytes that have room for it.
 fn leave_header(b: Built, header: &mut [u8]) -> u32
     requires { ⌜ Bu.Counted (B.told b) × (88 ≤ length (now header)) ⌝ }
-    ensures { λ r. ⌜ left r (now (header .exit)) ≡ Bu.headerLeft (B.told b) (now (header .entry)) ⌝ }
+    ensures { λ r. ⌜ outcome r (now (header .exit)) ≡ Bu.headerOutcome (B.told b) (now (header .entry)) ⌝ }
 {
     match b {
         Built::Refused(f) => refusal(f),
@@ -121,7 +121,7 @@ pub fn build_floats(
     normals: &mut [f64],
     classes: &mut [u8],
 ) -> u32
-    ensures { λ r. ⌜ record { number = r; header = now (header .exit); positions = now (positions .exit); normals = now (normals .exit); classes = now (classes .exit) } ≡ Bu.floatsLeft (now (list .entry)) (now (header .entry)) (now (positions .entry)) (now (normals .entry)) (now (classes .entry)) ⌝ }
+    ensures { λ r. ⌜ record { number = r; header = now (header .exit); positions = now (positions .exit); normals = now (normals .exit); classes = now (classes .exit) } ≡ Bu.floatsOutcome (now (list .entry)) (now (header .entry)) (now (positions .entry)) (now (normals .entry)) (now (classes .entry)) ⌝ }
 {
     if header.len() < 88 {
         return refusal(judge::first(loop_build::list_fault(list), 5));

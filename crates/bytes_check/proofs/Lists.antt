@@ -5,7 +5,7 @@ use mathlib.Core.Bool.{Bool, true, false, cond}
 use mathlib.Core.List.{List}
 use native.Mathlib.Omega.{arith}
 use lib.ListN.{length, take, drop}
-use lib.Dec.{eqb, ltb}
+use lib.Dec.{ltb}
 use lib.Ieee.{Float}
 use borrow.Author.Tests.{eq-eqb, ne-eqb, eqb-true, lt-ltb, le-ltb, ltb-false}
 use Rattle.laws.specs.Loop.{first}
@@ -17,10 +17,10 @@ use Rattle.loop_header.specs.Loops.{checkFault}
 use Rattle.loop_ask.specs.Answers.{Told, answer, judged}
 use Rattle.ring_check.specs.Accepted.{accepted}
 use Rattle.loop_triangles.specs.Triangles.{acceptsAnswer}
-use Rattle.bytes_loop.specs.Left.{refusalOf}
+use Rattle.bytes_loop.specs.Outcome.{refusalOf}
 use Rattle.bytes_loop.specs.Layout.{countAt, headerAt, floatsAt, positionsAt, classesAt, numberBlock, numbersAt, frameFault, manyFault, copyFault}
 use Rattle.bytes_loop.proofs.Lays.{floats-length}
-use Rattle.bytes_loop.proofs.Faults.{frame-size, Copyable, copyable}
+use Rattle.bytes_loop.proofs.Faults.{frame-size, copyable}
 use Rattle.bytes_ask.specs.Ask.{numberOf}
 use Rattle.bytes_ask.proofs.Asks.{classes-length, check-large, is-large, large-is}
 use Rattle.bytes_ask.proofs.Calls.{gone-number}

@@ -1,8 +1,8 @@
 -- Triangles in bytes. Assumes nothing.
 use Prim.Native.Nat.{ℕ, zero, suc, _+_, _-_, _*_, _≤_, _<_}
 use mathlib.Core.Path.{_≡_, refl, sym, ap, _∙_, subst}
-use mathlib.Core.Bool.{Bool, true, false, cond}
-use mathlib.Core.List.{List, [], _∷_, _++_}
+use mathlib.Core.Bool.{Bool, true, false}
+use mathlib.Core.List.{List, _∷_, _++_}
 use native.Mathlib.Omega.{arith}
 use native.Mathlib.Nat.{not-suc-le-zero}
 use lib.ListN.{length, take, drop, replicate}
@@ -18,25 +18,25 @@ use Rattle.loop_header.specs.declared.State.{State}
 use Rattle.loop_header.specs.declared.State.the-variants.{Empty, Full, Ring}
 use Rattle.loop_header.specs.declared.Header.{Header}
 use Rattle.loop_header.specs.Loops.{cutFault}
-use Rattle.loop_header.proofs.Sounds.{Cuttable, cuttable}
-use Rattle.loop_ask.specs.Answers.{Told, refused, answer}
+use Rattle.loop_header.proofs.Sounds.{cuttable}
+use Rattle.loop_ask.specs.Answers.{Told, answer}
 use Rattle.icosahedron.specs.Table.{triples}
 use Rattle.loop_triangles.specs.Triangles as T
-use Rattle.bytes_loop.specs.Left.{Left, left, refusalOf, leftBy}
+use Rattle.bytes_loop.specs.Outcome.{Outcome, outcome, refusalOf, outcomeBy}
 use Rattle.bytes_loop.specs.Layout.{countAt, stateByte, stateOf, headerAt, floatsAt, positionsAt, classesAt, headerFault, frameFault, largeFault, manyFault, copyFault}
 use Rattle.bytes_loop.proofs.Lays.{floats-length}
-use Rattle.bytes_loop.proofs.Faults.{frame-size, by-left}
+use Rattle.bytes_loop.proofs.Faults.{frame-size, by-outcome}
 use Rattle.bytes_ask.specs.Ask.{numberOf}
 use Rattle.bytes_ask.proofs.Asks.{classes-length, cut-large, is-large, large-is, copies}
-use Rattle.bytes_cut.specs.Cut.{triplesOf, toldLeft, outLeft, blank, cutLeft, roomFault, partsLeft, trianglesLeft, numbersLeft, floatsLeft, Small, Array}
+use Rattle.bytes_cut.specs.Cut.{triplesOf, toldOutcome, outOutcome, blank, cutOutcome, roomFault, partsOutcome, trianglesOutcome, numbersOutcome, floatsOutcome, Small, Array}
 
 -- ---- a count of triangles is small
 module _ (ps : List Float) (cs t : List ℕ) (h : length cs ≤ 512) where
-  full-small : (b : Bool) (l : List ℕ) → Small (T.roomy b t (T.out (answer 20) l) .answer)
+  full-small : (b : Bool) (l : List ℕ) → Small (T.roomy b t (T.outcome (answer 20) l) .answer)
   full-small true l = tt
   full-small false l = omega arith
 
-  ring-small : (b : Bool) (o : C.Out) → Small (T.roomy b t (T.laid o (length cs - 2)) .answer)
+  ring-small : (b : Bool) (o : C.Outcome) → Small (T.roomy b t (T.laid o (length cs - 2)) .answer)
   ring-small true o = tt
   ring-small false o = at (o .answer)
     where
@@ -44,25 +44,25 @@ module _ (ps : List Float) (cs t : List ℕ) (h : length cs ≤ 512) where
       at true = omega arith
       at false = tt
 
-  state-small : (s : State) → Small (T.stateOut s ps cs t .answer)
-  unfolding T.fullOut T.ringOut
+  state-small : (s : State) → Small (T.stateOutcome s ps cs t .answer)
+  unfolding T.fullOutcome T.ringOutcome
   state-small Empty = omega arith
   state-small Full = full-small (ltb (length t) 60) (triples ++ drop 60 t)
-  state-small Ring = ring-small (ltb (length t) (3 * (length cs - 2))) (C.outOf ps cs t)
+  state-small Ring = ring-small (ltb (length t) (3 * (length cs - 2))) (C.cutRingOutcome ps cs t)
 
-small-by : (h : Header) (ps : List Float) (cs t : List ℕ) (k : ℕ) → cutFault h ps cs ≡ k → Small (T.outBy k t (T.stateOut (h .state) ps cs t) .answer)
+small-by : (h : Header) (ps : List Float) (cs t : List ℕ) (k : ℕ) → cutFault h ps cs ≡ k → Small (T.outcomeBy k t (T.stateOutcome (h .state) ps cs t) .answer)
 small-by h ps cs t zero e =
     let d = cuttable h ps cs e in
     state-small ps cs t (omega (arith, d .most, d .shaped .classes)) (h .state)
 small-by h ps cs t (suc k) e = tt
 
-pub counted : (h : Header) (ps : List Float) (cs t : List ℕ) {u : Told} {l : List ℕ} → record { answer = u; triangles = l } ≡ T.cutOut h ps cs t → Small u
-unfolding T.cutOut
-counted h ps cs t {u} e = subst (λ (x : Told). Small x) (sym (ap (λ (o : T.Out). o .answer) e)) (small-by h ps cs t (cutFault h ps cs) refl)
+pub counted : (h : Header) (ps : List Float) (cs t : List ℕ) {u : Told} {l : List ℕ} → record { answer = u; triangles = l } ≡ T.triangulateOutcome h ps cs t → Small u
+unfolding T.triangulateOutcome
+counted h ps cs t {u} e = subst (λ (x : Told). Small x) (sym (ap (λ (o : T.Outcome). o .answer) e)) (small-by h ps cs t (cutFault h ps cs) refl)
 
 -- ---- what is left
-pub slid : {o : T.Out} {u : Told} {l : List ℕ} {x : Left ℕ} (out : List ℕ) → record { answer = u; triangles = l } ≡ o → x ≡ toldLeft u l out → x ≡ outLeft o out
-slid out e q = q ∙ ap (λ (o : T.Out). outLeft o out) e
+pub slid : {o : T.Outcome} {u : Told} {l : List ℕ} {x : Outcome ℕ} (out : List ℕ) → record { answer = u; triangles = l } ≡ o → x ≡ toldOutcome u l out → x ≡ outOutcome o out
+slid out e q = q ∙ ap (λ (o : T.Outcome). outOutcome o out) e
 
 take-same : {A : Type 0} (a : A) (k m : ℕ) → k ≤ m → take k (replicate m a) ≡ replicate k a
 take-same a zero m h = refl
@@ -74,35 +74,35 @@ unfolding blank
 front-blank m {k} h = take-same 0 k m h
 
 module _ (h : Header) (ps : List Float) (cs out : List ℕ) {f : ℕ} (e : f ≡ cutFault h ps cs) where
-  pub parts-refused : {r : ℕ} → (f ≡ 0 → ⊥) → r ≡ refusalOf f → left r out ≡ partsLeft h ps cs out
-  unfolding partsLeft
-  parts-refused n q = rw (q, ← e, first-hit f (roomFault h (length out)) n) (by-left f out _ n)
+  pub parts-refused : {r : ℕ} → (f ≡ 0 → ⊥) → r ≡ refusalOf f → outcome r out ≡ partsOutcome h ps cs out
+  unfolding partsOutcome
+  parts-refused n q = rw (q, ← e, first-hit f (roomFault h (length out)) n) (by-outcome f out _ n)
 
   module _ {m : ℕ} (z : f ≡ 0) (t : m ≡ triplesOf h) where
     pub few : h .count ≤ 512
     few = cuttable h ps cs (sym e ∙ z) .most
 
-    pub no-room : {r : ℕ} → length out < 6 * m → r ≡ refusalOf 5 → left r out ≡ partsLeft h ps cs out
-    unfolding partsLeft roomFault
+    pub no-room : {r : ℕ} → length out < 6 * m → r ≡ refusalOf 5 → outcome r out ≡ partsOutcome h ps cs out
+    unfolding partsOutcome roomFault
     no-room g q = rw (q, ← e, z, ← t, lt-ltb _ _ g)
 
-    pub roomy : {l : List ℕ} {x : Left ℕ} → 6 * m ≤ length out → l ≡ blank (3 * m) → x ≡ cutLeft h ps cs l out → x ≡ partsLeft h ps cs out
-    unfolding partsLeft roomFault
+    pub roomy : {l : List ℕ} {x : Outcome ℕ} → 6 * m ≤ length out → l ≡ blank (3 * m) → x ≡ cutOutcome h ps cs l out → x ≡ partsOutcome h ps cs out
+    unfolding partsOutcome roomFault
     roomy g b q = rw (← e, z, ← t, le-ltb _ _ g, ← b) q
 
 -- ---- a loop in bytes
-pub copied : (s out : List ℕ) {n a : ℕ} {h : Header} {ps : List Float} {x : Left ℕ} → n ≡ countAt s → h ≡ headerAt s → ps ≡ floatsAt s 88 a → a ≡ 3 * countAt s
-    → x ≡ partsLeft h ps (take (length s - (88 + 48 * n)) (drop (88 + 48 * n) s)) out → x ≡ partsLeft (headerAt s) (positionsAt s) (classesAt s) out
+pub copied : (s out : List ℕ) {n a : ℕ} {h : Header} {ps : List Float} {x : Outcome ℕ} → n ≡ countAt s → h ≡ headerAt s → ps ≡ floatsAt s 88 a → a ≡ 3 * countAt s
+    → x ≡ partsOutcome h ps (take (length s - (88 + 48 * n)) (drop (88 + 48 * n) s)) out → x ≡ partsOutcome (headerAt s) (positionsAt s) (classesAt s) out
 copied s out e f g i t = rw (f, g, i, e, rest (88 + 48 * countAt s) s) at t
 
 bytes-large : (s : List ℕ) → frameFault s ≡ 0 → 512 < countAt s → cutFault (headerAt s) (positionsAt s) (classesAt s) ≡ largeFault (stateOf (stateByte s))
 bytes-large s e g = cut-large (headerAt s) (positionsAt s) (classesAt s) g (floats-length s 88 (3 * countAt s)) (classes-length s (frame-size s e))
 
-pub early : (s out : List ℕ) {f r : ℕ} → f ≡ copyFault s → (f ≡ 0 → ⊥) → r ≡ refusalOf f → left r out ≡ trianglesLeft s out
-unfolding trianglesLeft copyFault
+pub early : (s out : List ℕ) {f r : ℕ} → f ≡ copyFault s → (f ≡ 0 → ⊥) → r ≡ refusalOf f → outcome r out ≡ trianglesOutcome s out
+unfolding trianglesOutcome copyFault
 early s out {f} {r} e n q = at (frameFault s) refl (e ∙ refl)
   where
-    at : (k : ℕ) → frameFault s ≡ k → f ≡ first k (manyFault s) → left r out ≡ leftBy k out (partsLeft (headerAt s) (positionsAt s) (classesAt s) out)
+    at : (k : ℕ) → frameFault s ≡ k → f ≡ first k (manyFault s) → outcome r out ≡ outcomeBy k out (partsOutcome (headerAt s) (positionsAt s) (classesAt s) out)
     at (suc k) a b = rw (q, b)
     at zero a b =
         let g = is-large s (λ z. n (b ∙ z)) in
@@ -112,19 +112,19 @@ module _ (s : List ℕ) {f : ℕ} (e : f ≡ copyFault s) (z : f ≡ 0) where
   pub array : {n a : ℕ} → n ≡ countAt s → a ≡ 3 * n → Array s a
   array q a = let d = copies s e z in record { size = d .size; most = d .most; for-positions = rw (← q) a }
 
-  pub late : (out : List ℕ) {x : Left ℕ} → x ≡ partsLeft (headerAt s) (positionsAt s) (classesAt s) out → x ≡ trianglesLeft s out
-  unfolding trianglesLeft
+  pub late : (out : List ℕ) {x : Outcome ℕ} → x ≡ partsOutcome (headerAt s) (positionsAt s) (classesAt s) out → x ≡ trianglesOutcome s out
+  unfolding trianglesOutcome
   late out t = rw (copies s e z .framed) t
 
 -- ---- with the header alone in bytes
 module _ (s : List ℕ) (ps : List Float) (cs out : List ℕ) {f : ℕ} (e : f ≡ headerFault s) where
-  pub header-refused : {r : ℕ} → (f ≡ 0 → ⊥) → r ≡ refusalOf f → left r out ≡ floatsLeft s ps cs out
-  unfolding floatsLeft
-  header-refused n q = rw (q, ← e) (by-left f out _ n)
+  pub header-refused : {r : ℕ} → (f ≡ 0 → ⊥) → r ≡ refusalOf f → outcome r out ≡ floatsOutcome s ps cs out
+  unfolding floatsOutcome
+  header-refused n q = rw (q, ← e) (by-outcome f out _ n)
 
-  pub numbered : {h : Header} {u : Told} {l : List ℕ} {r : ℕ} → f ≡ 0 → h ≡ headerAt s → record { answer = u; triangles = l } ≡ T.cutOut h ps cs out → r ≡ numberOf u → left r l ≡ floatsLeft s ps cs out
-  unfolding floatsLeft
-  numbered z p q t = rw (← e, z, ← p, t) (ap numbersLeft q)
+  pub numbered : {h : Header} {u : Told} {l : List ℕ} {r : ℕ} → f ≡ 0 → h ≡ headerAt s → record { answer = u; triangles = l } ≡ T.triangulateOutcome h ps cs out → r ≡ numberOf u → outcome r l ≡ floatsOutcome s ps cs out
+  unfolding floatsOutcome
+  numbered z p q t = rw (← e, z, ← p, t) (ap numbersOutcome q)
 
 pub triples-size : (w m : ℕ) {t : ℕ} → 3 * m ≤ w → m ≡ t → length (take {A = ℕ} (3 * m) (replicate w 0)) ≡ 3 * t
 triples-size w m h e = first-of w 0 h ∙ ap (λ (k : ℕ). 3 * k) e

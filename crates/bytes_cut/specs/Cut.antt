@@ -1,6 +1,6 @@
 -- Triangles over bytes: "`desk_triangles(loop, out)`: number of triples written", three u16 each. 5: "an output is shorter than the result needs", judged
 -- "for a ring's triangles by n-2, before 8". Definitions only.
-use Prim.Native.Nat.{ℕ, zero, suc, _+_, _-_, _*_, _≤_}
+use Prim.Native.Nat.{ℕ, _+_, _-_, _*_, _≤_}
 use mathlib.Core.Path.{_≡_}
 use mathlib.Core.Bool.{cond}
 use mathlib.Core.List.{List}
@@ -16,7 +16,7 @@ use Rattle.loop_header.specs.Loops.{cutFault}
 use Rattle.loop_ask.specs.Answers.{Told, refused, answer}
 use Rattle.loop_triangles.specs.declared.Cut.{Cut}
 use Rattle.loop_triangles.specs.Triangles as T
-use Rattle.bytes_loop.specs.Left.{Left, left, refusalOf, leftBy}
+use Rattle.bytes_loop.specs.Outcome.{Outcome, outcome, refusalOf, outcomeBy}
 use Rattle.bytes_loop.specs.Layout.{countAt, headerAt, positionsAt, classesAt, numbersBytes, headerFault, frameFault}
 use Rattle.bytes_ask.specs.Ask.{numberOf}
 
@@ -30,37 +30,37 @@ abbrev pub triplesOf : Header → ℕ
 triplesOf h = triplesBy (h .state) (h .count)
 
 -- what was cut: a refusal, or the triangles in bytes
-abbrev pub toldLeft : Told → List ℕ → List ℕ → Left ℕ
-toldLeft (refused f) l out = left (refusalOf f) out
-toldLeft (answer n) l out = left n (sets out 0 (numbersBytes l))
+abbrev pub toldOutcome : Told → List ℕ → List ℕ → Outcome ℕ
+toldOutcome (refused f) l out = outcome (refusalOf f) out
+toldOutcome (answer n) l out = outcome n (sets out 0 (numbersBytes l))
 
-abbrev pub outLeft : T.Out → List ℕ → Left ℕ
-outLeft o out = toldLeft (o .answer) (o .triangles) out
+abbrev pub outOutcome : T.Outcome → List ℕ → Outcome ℕ
+outOutcome o out = toldOutcome (o .answer) (o .triangles) out
 
 -- room for as many numbers
 unfoldable pub blank : ℕ → List ℕ
 blank n = replicate n 0
 
 -- of a loop in its parts: its refusals, then 5, then what the cutting with room for all comes to
-abbrev pub cutLeft : Header → List Float → List ℕ → List ℕ → List ℕ → Left ℕ
-cutLeft h ps cs triples out = outLeft (T.cutOut h ps cs triples) out
+abbrev pub cutOutcome : Header → List Float → List ℕ → List ℕ → List ℕ → Outcome ℕ
+cutOutcome h ps cs triples out = outOutcome (T.triangulateOutcome h ps cs triples) out
 
 unfoldable pub roomFault : Header → ℕ → ℕ
 roomFault h size = cond (ltb size (6 * triplesOf h)) 5 0
 
-unfoldable pub partsLeft : Header → List Float → List ℕ → List ℕ → Left ℕ
-partsLeft h ps cs out = leftBy (first (cutFault h ps cs) (roomFault h (length out))) out (cutLeft h ps cs (blank (3 * triplesOf h)) out)
+unfoldable pub partsOutcome : Header → List Float → List ℕ → List ℕ → Outcome ℕ
+partsOutcome h ps cs out = outcomeBy (first (cutFault h ps cs) (roomFault h (length out))) out (cutOutcome h ps cs (blank (3 * triplesOf h)) out)
 
 -- of a loop in bytes
-unfoldable pub trianglesLeft : List ℕ → List ℕ → Left ℕ
-trianglesLeft s out = leftBy (frameFault s) out (partsLeft (headerAt s) (positionsAt s) (classesAt s) out)
+unfoldable pub trianglesOutcome : List ℕ → List ℕ → Outcome ℕ
+trianglesOutcome s out = outcomeBy (frameFault s) out (partsOutcome (headerAt s) (positionsAt s) (classesAt s) out)
 
 -- with the header alone in bytes, and the output in numbers
-abbrev pub numbersLeft : T.Out → Left ℕ
-numbersLeft o = left (numberOf (o .answer)) (o .triangles)
+abbrev pub numbersOutcome : T.Outcome → Outcome ℕ
+numbersOutcome o = outcome (numberOf (o .answer)) (o .triangles)
 
-unfoldable pub floatsLeft : List ℕ → List Float → List ℕ → List ℕ → Left ℕ
-floatsLeft s ps cs out = leftBy (headerFault s) out (numbersLeft (T.cutOut (headerAt s) ps cs out))
+unfoldable pub floatsOutcome : List ℕ → List Float → List ℕ → List ℕ → Outcome ℕ
+floatsOutcome s ps cs out = outcomeBy (headerFault s) out (numbersOutcome (T.triangulateOutcome (headerAt s) ps cs out))
 
 -- ---- inner
 abbrev pub toldCut : Cut → Told
@@ -73,8 +73,8 @@ Small (answer n) = n ≤ 510
 abbrev pub Counted : Cut → Type 0
 Counted c = Small (T.toldCut c)
 
-abbrev pub laidLeft : Cut → List ℕ → List ℕ → Left ℕ
-laidLeft c l out = toldLeft (T.toldCut c) l out
+abbrev pub laidOutcome : Cut → List ℕ → List ℕ → Outcome ℕ
+laidOutcome c l out = toldOutcome (T.toldCut c) l out
 
 -- a loop in bytes with an array for its positions
 pub record Array (s : List ℕ) (positions : ℕ) : Type 0 where

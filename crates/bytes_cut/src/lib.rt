@@ -3,9 +3,9 @@ ghost use mathlib.Core.Path.{_≡_};
 ghost use Prim.Native.Nat.{_+_, _*_, _≤_, _<_};
 ghost use lib.ListN.{length};
 ghost use Rattle.bytes_loop.specs.Layout as F;
-ghost use Rattle.bytes_loop.specs.Left.{left};
+ghost use Rattle.bytes_loop.specs.Outcome.{outcome};
 ghost use Rattle.bytes_ask.specs.Ask.{numberOf};
-ghost use Rattle.bytes_cut.specs.Cut as Sl;
+ghost use Rattle.bytes_cut.specs.Cut as Cu;
 use bytes_loop::refusal;
 use loop_header::Header;
 use loop_header::State;
@@ -14,7 +14,7 @@ use loop_triangles::Cut;
 // How many triangles a loop that was judged has at most.
 fn triples_of(h: Header) -> usize
     requires { ⌜ h .count ≤ 512 ⌝ }
-    ensures { λ r. ⌜ r ≡ Sl.triplesOf h ⌝ }
+    ensures { λ r. ⌜ r ≡ Cu.triplesOf h ⌝ }
     ensures { λ r. ⌜ r ≤ 510 ⌝ }
 {
     let state = h.state;
@@ -28,8 +28,8 @@ fn triples_of(h: Header) -> usize
 
 // The triangles that were cut, in bytes.
 fn leave_cut(c: Cut, triples: &[u16], out: &mut [u8]) -> u32
-    requires { ⌜ Sl.Counted c × (2 * length (now triples) ≤ length (now out)) ⌝ }
-    ensures { λ r. ⌜ left r (now (out .exit)) ≡ Sl.laidLeft c (now (triples .entry)) (now (out .entry)) ⌝ }
+    requires { ⌜ Cu.Counted c × (2 * length (now triples) ≤ length (now out)) ⌝ }
+    ensures { λ r. ⌜ outcome r (now (out .exit)) ≡ Cu.laidOutcome c (now (triples .entry)) (now (out .entry)) ⌝ }
 {
     match c {
         Cut::Refused(f) => refusal(f),
@@ -48,8 +48,8 @@ fn cut_into(
     triples: &mut [u16],
     out: &mut [u8],
 ) -> u32
-    requires { ⌜ (h .count ≤ 512) × (length (now triples) ≡ 3 * Sl.triplesOf h) × (6 * Sl.triplesOf h ≤ length (now out)) ⌝ }
-    ensures { λ r. ⌜ left r (now (out .exit)) ≡ Sl.cutLeft h (now (positions .entry)) (now (classes .entry)) (now (triples .entry)) (now (out .entry)) ⌝ }
+    requires { ⌜ (h .count ≤ 512) × (length (now triples) ≡ 3 * Cu.triplesOf h) × (6 * Cu.triplesOf h ≤ length (now out)) ⌝ }
+    ensures { λ r. ⌜ outcome r (now (out .exit)) ≡ Cu.cutOutcome h (now (positions .entry)) (now (classes .entry)) (now (triples .entry)) (now (out .entry)) ⌝ }
 {
     let c = loop_triangles::triangulate(h, positions, classes, triples);
     leave_cut(c, triples, out)
@@ -57,7 +57,7 @@ fn cut_into(
 
 // The refusals of a loop in its parts, and then that of the room for its triangles.
 fn cut_parts(h: Header, positions: &[f64], classes: &[u8], out: &mut [u8]) -> u32
-    ensures { λ r. ⌜ left r (now (out .exit)) ≡ Sl.partsLeft h (now (positions .entry)) (now (classes .entry)) (now (out .entry)) ⌝ }
+    ensures { λ r. ⌜ outcome r (now (out .exit)) ≡ Cu.partsOutcome h (now (positions .entry)) (now (classes .entry)) (now (out .entry)) ⌝ }
 {
     let f = loop_header::cut_fault(h, positions, classes);
     if f != 0 {
@@ -73,8 +73,8 @@ fn cut_parts(h: Header, positions: &[f64], classes: &[u8], out: &mut [u8]) -> u3
 }
 
 fn cut_in(s: &[u8], positions: &mut [f64], out: &mut [u8]) -> u32
-    requires { ⌜ Sl.Array (now s) (length (now positions)) ⌝ }
-    ensures { λ r. ⌜ left r (now (out .exit)) ≡ Sl.partsLeft (F.headerAt (now (s .entry))) (F.positionsAt (now (s .entry))) (F.classesAt (now (s .entry))) (now (out .entry)) ⌝ }
+    requires { ⌜ Cu.Array (now s) (length (now positions)) ⌝ }
+    ensures { λ r. ⌜ outcome r (now (out .exit)) ≡ Cu.partsOutcome (F.headerAt (now (s .entry))) (F.positionsAt (now (s .entry))) (F.classesAt (now (s .entry))) (now (out .entry)) ⌝ }
 {
     let n = bytes_loop::count_at(s);
     let from = 88 + 48 * n;
@@ -84,7 +84,7 @@ fn cut_in(s: &[u8], positions: &mut [f64], out: &mut [u8]) -> u32
 
 // Cuts a loop in bytes into triangles in bytes.
 pub fn cut(s: &[u8], out: &mut [u8]) -> u32
-    ensures { λ r. ⌜ left r (now (out .exit)) ≡ Sl.trianglesLeft (now (s .entry)) (now (out .entry)) ⌝ }
+    ensures { λ r. ⌜ outcome r (now (out .exit)) ≡ Cu.trianglesOutcome (now (s .entry)) (now (out .entry)) ⌝ }
 {
     let f = bytes_loop::copy_fault(s);
     if f != 0 {
@@ -96,8 +96,8 @@ pub fn cut(s: &[u8], out: &mut [u8]) -> u32
 }
 
 fn number(c: Cut) -> u32
-    requires { ⌜ Sl.Counted c ⌝ }
-    ensures { λ r. ⌜ r ≡ numberOf (Sl.toldCut c) ⌝ }
+    requires { ⌜ Cu.Counted c ⌝ }
+    ensures { λ r. ⌜ r ≡ numberOf (Cu.toldCut c) ⌝ }
 {
     match c {
         Cut::Refused(f) => refusal(f),
@@ -107,7 +107,7 @@ fn number(c: Cut) -> u32
 
 // Cuts a loop whose header alone is bytes.
 pub fn cut_floats(header: &[u8], positions: &[f64], classes: &[u8], out: &mut [u16]) -> u32
-    ensures { λ r. ⌜ left r (now (out .exit)) ≡ Sl.floatsLeft (now (header .entry)) (now (positions .entry)) (now (classes .entry)) (now (out .entry)) ⌝ }
+    ensures { λ r. ⌜ outcome r (now (out .exit)) ≡ Cu.floatsOutcome (now (header .entry)) (now (positions .entry)) (now (classes .entry)) (now (out .entry)) ⌝ }
 {
     let f = bytes_loop::header_fault(header);
     if f != 0 {

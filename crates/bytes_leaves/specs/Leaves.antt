@@ -1,6 +1,6 @@
--- The test probes over the leaves. Their operands are three vectors a, b, c of raw floats; an operation's number is its place in a table. Definitions only.
+-- The test probes over the leaves. Their operands are three vectors a, b, c of raw floats; an operation's number is its index in a table. Definitions only.
 use Prim.Native.Nat.{ℕ, _/_, _%_}
-use mathlib.Core.Bool.{Bool, true, false, _||_}
+use mathlib.Core.Bool.{Bool, true, false}
 use mathlib.Core.List.{List, [], _∷_}
 use lib.ListN.{length, getD}
 use lib.Seq.{sets}
@@ -14,15 +14,15 @@ use Rattle.vec3.specs.declared.Vec3.{Vec3}
 use Rattle.vec3.specs.declared.Point.{Point}
 use Rattle.vec3.specs.declared.Point.the-variants.{Absent, At}
 use Rattle.vec3.specs.Vec.{vec, unitVec, unit, cross, crossUnit, stableUnit, orthogonal, orthogonalTo, plus, minus, opposite, times, origin, dot, same, antipodes, rawAt, coords}
-use Rattle.vec3.specs.Points.{triangleMean, middle}
+use Rattle.vec3.specs.Points.{triangleMean, midpoint}
 use Rattle.base.specs.declared.Side.{Side}
 use Rattle.base.specs.declared.Side.the-variants.{Left, Right, Collinear}
 use Rattle.base.specs.Sides.{sideOf}
-use Rattle.base.specs.Turns.{sineOf, turnOf}
+use Rattle.base.specs.Turns.{sineOf, turningAngle}
 use Rattle.chord_length.specs.Chords.{squared, chord, sum}
 use Rattle.cap.specs.declared.Cap.{Cap}
-use Rattle.cap.specs.Caps.{contains, meet, boundingCap}
-use Rattle.bytes_loop.specs.Left as L
+use Rattle.cap.specs.Caps.{contains, intersects, boundingCap}
+use Rattle.bytes_loop.specs.Outcome as L
 
 -- ---- vectors
 abbrev pub pointOr : Point → Vec3
@@ -44,7 +44,7 @@ vectors a b c =
     opposite a ∷
     times a (b .x) ∷
     pointOr (triangleMean a b c) ∷
-    pointOr (middle a b) ∷ []
+    pointOr (midpoint a b) ∷ []
 
 unfoldable pub vectorOf : ℕ → Vec3 → Vec3 → Vec3 → Vec3
 vectorOf op a b c = getD (vectors a b c) op origin
@@ -59,7 +59,7 @@ numbers a b c =
     sum (squared (a .x)) (squared (a .y)) .0 ∷
     sineOf a b c ∷
     dot a b ∷
-    turnOf a b c .0 ∷ []
+    turningAngle a b c .0 ∷ []
 
 unfoldable pub numberOf : ℕ → Vec3 → Vec3 → Vec3 → Float
 numberOf op a b c = getD (numbers a b c) op nan
@@ -91,19 +91,19 @@ cases a b c =
     yes (antipodes a b) ∷
     sideNo (sideOf a b c) ∷
     yes (contains (capOf a (b .x)) c) ∷
-    yes (meet (capOf a (b .x)) (capOf c (b .y))) ∷
+    yes (intersects (capOf a (b .x)) (capOf c (b .y))) ∷
     present (triangleMean a b c) ∷ []
 
 unfoldable pub caseOf : ℕ → Vec3 → Vec3 → Vec3 → ℕ
 caseOf op a b c = getD (cases a b c) op 0
 
 -- ---- the probes
-unfoldable pub leafVec : ℕ → List Float → List Float → L.Left Float
+unfoldable pub leafVec : ℕ → List Float → List Float → L.Outcome Float
 leafVec op l out =
-    if ltb (length l) 9 then L.left 1 out else
-    if leb 14 op then L.left 1 out else
-    if ltb (length out) 3 then L.left 5 out else
-    L.left 0 (sets out 0 (coords (vectorOf op (rawAt l 0) (rawAt l 1) (rawAt l 2))))
+    if ltb (length l) 9 then L.outcome 1 out else
+    if leb 14 op then L.outcome 1 out else
+    if ltb (length out) 3 then L.outcome 5 out else
+    L.outcome 0 (sets out 0 (coords (vectorOf op (rawAt l 0) (rawAt l 1) (rawAt l 2))))
 
 unfoldable pub leafNumber : ℕ → List Float → ℕ
 leafNumber op l =
@@ -121,8 +121,8 @@ abbrev pub capFloats : Cap → List Float
 capFloats c = c .centre .x ∷ c .centre .y ∷ c .centre .z ∷ c .radius .0 ∷ []
 
 -- the bounding cap of a list in the order given
-unfoldable pub leafCap : List Float → List Float → L.Left Float
+unfoldable pub leafCap : List Float → List Float → L.Outcome Float
 leafCap l out =
     if eqb (length l % 3) 0
-    then (if ltb (length out) 4 then L.left (L.refusalOf 5) out else L.left 0 (sets out 0 (capFloats (boundingCap l (length l / 3)))))
-    else L.left (L.refusalOf 1) out
+    then (if ltb (length out) 4 then L.outcome (L.refusalOf 5) out else L.outcome 0 (sets out 0 (capFloats (boundingCap l (length l / 3)))))
+    else L.outcome (L.refusalOf 1) out

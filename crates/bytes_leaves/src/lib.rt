@@ -2,7 +2,7 @@
 ghost use mathlib.Core.Path.{_≡_};
 ghost use lib.Ieee.{binary64, ofBits, toBits};
 ghost use Rattle.angle.specs.Arctan.{atan2};
-ghost use Rattle.bytes_loop.specs.Left.{left};
+ghost use Rattle.bytes_loop.specs.Outcome.{outcome};
 ghost use Rattle.bytes_leaves.specs.Leaves as Leaves;
 use base::Side;
 use bytes_loop::refusal;
@@ -111,7 +111,7 @@ fn case(op: u32, a: Vec3, b: Vec3, c: Vec3) -> u32
 }
 
 pub fn leaf_vec(op: u32, input: &[f64], out: &mut [f64]) -> u32
-    ensures { λ r. ⌜ left r (now (out .exit)) ≡ Leaves.leafVec op (now (input .entry)) (now (out .entry)) ⌝ }
+    ensures { λ r. ⌜ outcome r (now (out .exit)) ≡ Leaves.leafVec op (now (input .entry)) (now (out .entry)) ⌝ }
 {
     if input.len() < 9 {
         return 1;
@@ -171,7 +171,7 @@ pub fn leaf_case(op: u32, input: &[f64]) -> u32
 
 // The bounding cap of a list in the order given: its centre and its radius.
 pub fn leaf_cap(list: &[f64], out: &mut [f64]) -> u32
-    ensures { λ r. ⌜ left r (now (out .exit)) ≡ Leaves.leafCap (now (list .entry)) (now (out .entry)) ⌝ }
+    ensures { λ r. ⌜ outcome r (now (out .exit)) ≡ Leaves.leafCap (now (list .entry)) (now (out .entry)) ⌝ }
 {
     if list.len() % 3 != 0 {
         return refusal(1);

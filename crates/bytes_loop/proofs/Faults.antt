@@ -1,17 +1,16 @@
 -- Refusals by a length, and what none of them tells. Assumes nothing.
-use Prim.Native.Nat.{ℕ, zero, suc, _+_, _*_, _≤_, _<_}
-use mathlib.Core.Path.{_≡_, refl, sym, ap, _∙_}
+use Prim.Native.Nat.{ℕ, zero, suc, _+_, _*_, _≤_}
+use mathlib.Core.Path.{_≡_, refl}
 use mathlib.Core.Bool.{Bool, true, false, cond}
 use mathlib.Core.List.{List}
 use native.Mathlib.Omega.{arith}
 use lib.ListN.{length}
-use lib.Dec.{eqb, ltb}
-use borrow.Author.Tests.{eq-eqb, ne-eqb, eqb-true, lt-ltb, le-ltb, ltb-false}
-use Rattle.laws.specs.Loop.{first}
-use Rattle.laws.proofs.Firsts.{first-zero, test-none, test-passed}
+use lib.Dec.{ltb}
+use borrow.Author.Tests.{eq-eqb, ne-eqb, eqb-true, ltb-false}
+use Rattle.laws.proofs.Firsts.{first-zero, test-passed}
 use Rattle.loop_header.specs.declared.State.{State}
 use Rattle.loop_header.specs.declared.State.the-variants.{Empty, Full, Ring}
-use Rattle.bytes_loop.specs.Left.{Left, left, refusalOf, leftBy}
+use Rattle.bytes_loop.specs.Outcome.{Outcome, outcome, refusalOf, outcomeBy}
 use Rattle.bytes_loop.specs.Layout.{countAt, stateByte, stateOf, stateFault, sizeFault, headerFault, frameFault, largeFault, manyFault, copyFault}
 
 module _ (size n : ℕ) where
@@ -74,6 +73,6 @@ copyable s e =
     record { framed = a .0; size = frame-size s (a .0); most = ltb-false _ _ (many-none (ltb 512 (countAt s)) (stateOf (stateByte s)) (a .1)) }
 
 -- a refusal leaves the output as it was
-pub by-left : {A : Type 0} (k : ℕ) (out : List A) (x : Left A) → (k ≡ 0 → ⊥) → left (refusalOf k) out ≡ leftBy k out x
-by-left zero out x h = absurd (h refl)
-by-left (suc k) out x h = refl
+pub by-outcome : {A : Type 0} (k : ℕ) (out : List A) (x : Outcome A) → (k ≡ 0 → ⊥) → outcome (refusalOf k) out ≡ outcomeBy k out x
+by-outcome zero out x h = absurd (h refl)
+by-outcome (suc k) out x h = refl

@@ -2,10 +2,10 @@
 -- (6 f64, zero where absent), then 24n bytes of positions, 24n of normals, n of classes: 88 + 49n bytes. A state byte above 2 or a length that does not agree
 -- is refusal 1; unknown mark bits and the four bytes are passed over". Definitions only.
 use Prim.Native.Nat.{ℕ, _+_, _*_, _/_, _%_}
-use mathlib.Core.Bool.{Bool, true, false, _&&_, cond}
+use mathlib.Core.Bool.{Bool, true, false, cond}
 use mathlib.Core.List.{List, [], _∷_, _++_}
 use lib.ListN.{length, getD, drop}
-use lib.Dec.{eqb, leb, ltb}
+use lib.Dec.{eqb, ltb}
 use lib.Ieee.{Float, nan}
 use Rattle.numbers.specs.Choice.{if_then_else_}
 use Rattle.laws.specs.Loop.{first, flat}
@@ -13,8 +13,8 @@ use Rattle.vec3.specs.declared.Vec3.{Vec3}
 use Rattle.vec3.specs.Vec.{origin}
 use Rattle.chord_length.specs.Chords.{squared}
 use Rattle.cap.specs.declared.Cap.{Cap}
-use Rattle.ring_cut.specs.declared.Insides.{Insides}
-use Rattle.ring_cut.specs.declared.Insides.the-variants.{Absent, Two}
+use Rattle.vec3.specs.declared.Insides.{Insides}
+use Rattle.vec3.specs.declared.Insides.the-variants.{Absent, Two}
 use Rattle.loop_header.specs.declared.State.{State}
 use Rattle.loop_header.specs.declared.State.the-variants.{Empty, Full, Ring}
 use Rattle.loop_header.specs.declared.Header.{Header}
@@ -59,7 +59,7 @@ headerAt s = record {
 abbrev pub floatBlock : List ℕ → ℕ → ℕ → List Float
 floatBlock s at i = floatOf s (at + 8 * i) ∷ []
 
--- n floats from a place on
+-- n floats from an offset on
 unfoldable pub floatsAt : List ℕ → ℕ → ℕ → List Float
 floatsAt s at n = flat (floatBlock s at) n 0
 

@@ -1,2 +1,2 @@
-pub mod Left
+pub mod Outcome
 pub mod Layout

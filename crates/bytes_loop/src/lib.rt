@@ -4,13 +4,13 @@ ghost use mathlib.Core.List.{[], _∷_};
 ghost use Prim.Native.Nat.{_+_, _*_, _≤_, _<_};
 ghost use lib.ListN.{length};
 ghost use lib.Seq.{sets};
-ghost use Rattle.bytes_loop.specs.Left.{refusalOf};
+ghost use Rattle.bytes_loop.specs.Outcome.{refusalOf};
 ghost use Rattle.bytes_loop.specs.Layout as F;
 use cap::Cap;
 use chord_length::ChordLength;
 use loop_header::Header;
 use loop_header::State;
-use ring_cut::Insides;
+use vec3::Insides;
 use vec3::Vec3;
 
 // A refusal as it is answered.
@@ -145,7 +145,7 @@ pub fn copy_fault(s: &[u8]) -> u8
     many_fault(s)
 }
 
-// The floats from a place on, as many as there is room for.
+// The floats from an offset on, as many as there is room for.
 pub fn read_floats(s: &[u8], at: usize, out: &mut [f64])
     requires { ⌜ at + 8 * length (now out) ≤ length (now s) ⌝ }
     ensures { λ _. ⌜ now (out .exit) ≡ F.floatsAt (now (s .entry)) at (length (now (out .entry))) ⌝ }

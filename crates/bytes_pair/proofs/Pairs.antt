@@ -1,6 +1,6 @@
 -- Two loops, each refused ahead of being copied or copied. Assumes nothing.
 use Prim.Native.Nat.{ℕ, zero, suc, _+_, _-_, _*_}
-use mathlib.Core.Path.{_≡_, refl, sym, ap, _∙_}
+use mathlib.Core.Path.{_≡_, refl, sym, _∙_}
 use mathlib.Core.List.{List}
 use lib.ListN.{length, take, drop}
 use lib.Ieee.{Float}
@@ -12,13 +12,13 @@ use Rattle.loop_ask.specs.Answers.{refused, judged}
 use Rattle.loop_ask.specs.Questions.{pairFault, equivalentAnswer}
 use Rattle.loop_ask.proofs.Judged.{was-refused}
 use Rattle.loop_relate.specs.Relations.{relateAnswer}
-use Rattle.bytes_loop.specs.Left.{refusalOf}
+use Rattle.bytes_loop.specs.Outcome.{refusalOf}
 use Rattle.bytes_loop.specs.Layout.{countAt, headerAt, floatsAt, positionsAt, normalsAt, classesAt, headerFault, frameFault, copyFault}
 use Rattle.bytes_ask.specs.Ask.{numberOf}
 use Rattle.bytes_ask.proofs.Asks.{told-early, copies}
 use Rattle.bytes_pair.specs.declared.Comparison.{Comparison}
 use Rattle.bytes_pair.specs.declared.Comparison.the-variants.{Relation, Equivalence}
-use Rattle.bytes_pair.specs.Pair.{toldOf, nextTold, againstTold, pairTold, floatsTold, noPair}
+use Rattle.bytes_pair.specs.Pair.{toldOf, nextTold, againstTold, pairTold, noPair}
 
 -- ---- a loop's refusal is every answer's
 module _ (h : Header) (ps ns : List Float) (cs : List ℕ) (o : Header) (qs ms : List Float) (ds : List ℕ) where

@@ -8,7 +8,7 @@ use Rattle.loop_header.specs.Loops.{loopFault}
 use Rattle.loop_ask.specs.Answers.{Told, judged}
 use Rattle.loop_ask.specs.Questions.{equivalentAnswer}
 use Rattle.loop_relate.specs.Relations.{relateAnswer}
-use Rattle.bytes_loop.specs.Left.{refusalOf}
+use Rattle.bytes_loop.specs.Outcome.{refusalOf}
 use Rattle.bytes_loop.specs.Layout.{headerAt, positionsAt, normalsAt, classesAt, headerFault, frameFault}
 use Rattle.bytes_pair.specs.declared.Comparison.{Comparison}
 use Rattle.bytes_pair.specs.declared.Comparison.the-variants.{Relation, Equivalence}

@@ -2,13 +2,13 @@
 -- given, before any reversal"; "The cap's growth is a fixed squared chord, and the test "radius at least a quarter circle" compares the squared chord with
 -- one threshold near 2; both numbers are recorded bit for bit from the Rust" (docs/CONSTANTS.md). Definitions only.
 use Prim.Native.Nat.{ℕ}
-use mathlib.Core.Bool.{Bool, true, false, _||_}
+use mathlib.Core.Bool.{Bool, false, _||_}
 use mathlib.Core.List.{List}
 use lib.Ieee.{Float, binary64, ofBits, le, eq}
 use Rattle.numbers.specs.Choice.{if_then_else_}
 use Rattle.numbers.specs.F64.{zero, minus-one}
 use Rattle.numbers.specs.Near.{near, atMost, atLeast}
-use Rattle.laws.specs.Loop.{turns}
+use Rattle.laws.specs.Loop.{iterate}
 use Rattle.vec3.specs.declared.Vec3.{Vec3}
 use Rattle.vec3.specs.Vec.{origin, axis-z, plus, dot, unit, posAt}
 use Rattle.chord_length.specs.declared.ChordLength.{ChordLength}
@@ -33,8 +33,8 @@ contains c p = atMost (chord (c .centre) p .0) (c .radius .0)
 abbrev pub emptyCap : Cap → Bool
 emptyCap c = eq (c .radius .0) minus-one
 
-unfoldable pub meet : Cap → Cap → Bool
-meet c d =
+unfoldable pub intersects : Cap → Cap → Bool
+intersects c d =
     if emptyCap c || emptyCap d then false else
     atLeast (sum (c .radius) (d .radius) .0) (chord (c .centre) (d .centre) .0)
 
@@ -43,14 +43,14 @@ abbrev pub plusNext : List Float → ℕ → Vec3 → Vec3
 plusNext l i s = plus s (posAt l i)
 
 abbrev pub sumOf : List Float → ℕ → Vec3
-sumOf l n = turns (plusNext l) n 0 origin
+sumOf l n = iterate (plusNext l) n 0 origin
 
 -- the largest chord to one of them: of equal ones the later
 abbrev pub farther : List Float → Vec3 → ℕ → ChordLength → ChordLength
 farther l centre i most = laterMax most (chord centre (posAt l i))
 
 abbrev pub farthestOf : List Float → ℕ → Vec3 → ChordLength
-farthestOf l n centre = turns (farther l centre) n 0 negative
+farthestOf l n centre = iterate (farther l centre) n 0 negative
 
 unfoldable pub grown : Vec3 → ChordLength → Cap
 grown centre radius =

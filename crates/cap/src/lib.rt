@@ -44,7 +44,7 @@ impl Cap {
 
     // Whether the two have a point in common; an empty one has none with any.
     pub fn intersects(self, o: Cap) -> bool
-        ensures { λ r. ⌜ r ≡ Caps.meet self o ⌝ }
+        ensures { λ r. ⌜ r ≡ Caps.intersects self o ⌝ }
     {
         if self.is_empty() | o.is_empty() {
             return false;

@@ -18,18 +18,18 @@ abbrev pub most : ChordLength
 most = squared four
 
 -- at most 4; a NaN becomes 4
-unfoldable pub clamped : Float → ChordLength
-clamped x = if lt x four then squared x else most
+unfoldable pub fromSquaredLength : Float → ChordLength
+fromSquaredLength x = if lt x four then squared x else most
 
 abbrev pub chord : Vec3 → Vec3 → ChordLength
-chord p q = clamped (dot (minus p q) (minus p q))
+chord p q = fromSquaredLength (dot (minus p q) (minus p q))
 
 -- with a = 2 sin A and b = 2 sin B, the square of 2 sin (A + B): x + y + 2 √(x y), for x = a² (1 - b²/4) and y = b² (1 - a²/4)
 unfoldable pub joined : Float → Float → ChordLength
 joined a b =
     let x = a ⊗ (one ⊖ quarter ⊗ b) in
     let y = b ⊗ (one ⊖ quarter ⊗ a) in
-    clamped (x ⊕ y ⊕ two ⊗ rootOf (x ⊗ y))
+    fromSquaredLength (x ⊕ y ⊕ two ⊗ rootOf (x ⊗ y))
 
 -- a negative one gives the other, then a zero one gives the other, then 4 from 4 on
 unfoldable pub sum : ChordLength → ChordLength → ChordLength

@@ -15,7 +15,7 @@ impl ChordLength {
 
     // At most 4, and 4 for a NaN, as the source's `min` has it.
     pub fn from_squared_length(l2: f64) -> ChordLength
-        ensures { λ r. ⌜ r ≡ Chords.clamped l2 ⌝ }
+        ensures { λ r. ⌜ r ≡ Chords.fromSquaredLength l2 ⌝ }
     {
         if l2 < 4.0 {
             ChordLength(l2)

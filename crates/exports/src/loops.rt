@@ -2,11 +2,11 @@
 ghost use mathlib.Core.Path.{_≡_};
 ghost use Rattle.bytes_pair.specs.declared.Comparison.the-variants as C;
 ghost use Rattle.bytes_pair.specs.Pair as Pa;
-ghost use Rattle.bytes_loop.specs.Left.{left};
+ghost use Rattle.bytes_loop.specs.Outcome.{outcome};
 ghost use Rattle.bytes_build.specs.Build as Bu;
 ghost use Rattle.bytes_ask.specs.declared.Question.the-variants as Q;
 ghost use Rattle.bytes_ask.specs.Ask as As;
-ghost use Rattle.bytes_cut.specs.Cut as Sl;
+ghost use Rattle.bytes_cut.specs.Cut as Cu;
 ghost use Rattle.bytes_check.specs.Checking as Ch;
 use bytes_ask::Question;
 use bytes_pair::Comparison;
@@ -14,7 +14,7 @@ use vec3::Vec3;
 
 #[no_mangle]
 pub extern "C" fn desk_build(list: &[u8], out: &mut [u8]) -> u32
-    ensures { λ r. ⌜ left r (now (out .exit)) ≡ Bu.buildLeft (now (list .entry)) (now (out .entry)) ⌝ }
+    ensures { λ r. ⌜ outcome r (now (out .exit)) ≡ Bu.buildOutcome (now (list .entry)) (now (out .entry)) ⌝ }
 {
     bytes_build::build(list, out)
 }
@@ -71,7 +71,7 @@ pub extern "C" fn desk_place_f64(
 
 #[no_mangle]
 pub extern "C" fn desk_triangles(of: &[u8], out: &mut [u8]) -> u32
-    ensures { λ r. ⌜ left r (now (out .exit)) ≡ Sl.trianglesLeft (now (of .entry)) (now (out .entry)) ⌝ }
+    ensures { λ r. ⌜ outcome r (now (out .exit)) ≡ Cu.trianglesOutcome (now (of .entry)) (now (out .entry)) ⌝ }
 {
     bytes_cut::cut(of, out)
 }
@@ -83,7 +83,7 @@ pub extern "C" fn desk_triangles_f64(
     classes: &[u8],
     out: &mut [u16],
 ) -> u32
-    ensures { λ r. ⌜ left r (now (out .exit)) ≡ Sl.floatsLeft (now (header .entry)) (now (positions .entry)) (now (classes .entry)) (now (out .entry)) ⌝ }
+    ensures { λ r. ⌜ outcome r (now (out .exit)) ≡ Cu.floatsOutcome (now (header .entry)) (now (positions .entry)) (now (classes .entry)) (now (out .entry)) ⌝ }
 {
     bytes_cut::cut_floats(header, positions, classes, out)
 }
@@ -142,7 +142,7 @@ pub extern "C" fn desk_build_f64(
     normals: &mut [f64],
     classes: &mut [u8],
 ) -> u32
-    ensures { λ r. ⌜ record { number = r; header = now (header .exit); positions = now (positions .exit); normals = now (normals .exit); classes = now (classes .exit) } ≡ Bu.floatsLeft (now (list .entry)) (now (header .entry)) (now (positions .entry)) (now (normals .entry)) (now (classes .entry)) ⌝ }
+    ensures { λ r. ⌜ record { number = r; header = now (header .exit); positions = now (positions .exit); normals = now (normals .exit); classes = now (classes .exit) } ≡ Bu.floatsOutcome (now (list .entry)) (now (header .entry)) (now (positions .entry)) (now (normals .entry)) (now (classes .entry)) ⌝ }
 {
     bytes_build::build_floats(list, header, positions, normals, classes)
 }

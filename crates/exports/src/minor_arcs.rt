@@ -1,18 +1,18 @@
 // The desk's functions on arcs, over bytes: each is one call.
 ghost use mathlib.Core.Path.{_≡_};
-ghost use Rattle.bytes_loop.specs.Left.{left};
+ghost use Rattle.bytes_loop.specs.Outcome.{outcome};
 ghost use Rattle.bytes_arcs.specs.Arcs as Arcs;
 
 #[no_mangle]
 pub extern "C" fn desk_arc(start: &[u8], end: &[u8], out: &mut [u8]) -> u32
-    ensures { λ r. ⌜ left r (now (out .exit)) ≡ Arcs.leave (Arcs.arcTold (now (start .entry)) (now (end .entry))) (now (out .entry)) ⌝ }
+    ensures { λ r. ⌜ outcome r (now (out .exit)) ≡ Arcs.leave (Arcs.arcTold (now (start .entry)) (now (end .entry))) (now (out .entry)) ⌝ }
 {
     bytes_arcs::make(start, end, out)
 }
 
 #[no_mangle]
 pub extern "C" fn desk_arc_opposite(arc: &[u8], out: &mut [u8]) -> u32
-    ensures { λ r. ⌜ left r (now (out .exit)) ≡ Arcs.leave (Arcs.oppositeTold (now (arc .entry))) (now (out .entry)) ⌝ }
+    ensures { λ r. ⌜ outcome r (now (out .exit)) ≡ Arcs.leave (Arcs.oppositeTold (now (arc .entry))) (now (out .entry)) ⌝ }
 {
     bytes_arcs::opposite(arc, out)
 }
@@ -33,14 +33,14 @@ pub extern "C" fn desk_arc_contains(arc: &[u8], position: &[u8]) -> u32
 
 #[no_mangle]
 pub extern "C" fn desk_arc_intersection(a: &[u8], b: &[u8], out: &mut [u8]) -> u32
-    ensures { λ r. ⌜ left r (now (out .exit)) ≡ Arcs.leave (Arcs.intersectionTold (now (a .entry)) (now (b .entry))) (now (out .entry)) ⌝ }
+    ensures { λ r. ⌜ outcome r (now (out .exit)) ≡ Arcs.leave (Arcs.intersectionTold (now (a .entry)) (now (b .entry))) (now (out .entry)) ⌝ }
 {
     bytes_arcs::intersection(a, b, out)
 }
 
 #[no_mangle]
 pub extern "C" fn desk_arc_relate(a: &[u8], b: &[u8], out: &mut [u8]) -> u32
-    ensures { λ r. ⌜ left r (now (out .exit)) ≡ Arcs.leave (Arcs.relateTold (now (a .entry)) (now (b .entry))) (now (out .entry)) ⌝ }
+    ensures { λ r. ⌜ outcome r (now (out .exit)) ≡ Arcs.leave (Arcs.relateTold (now (a .entry)) (now (b .entry))) (now (out .entry)) ⌝ }
 {
     bytes_arcs::relate(a, b, out)
 }

@@ -1,5 +1,4 @@
 -- The rules of the two tables, each proved once by a test that antt computes over the whole table. Assumes nothing.
-use Prim.Native.Nat.{ℕ}
 use mathlib.Core.Path.{_≡_, refl}
 use lib.ListN.{length}
 use lib.Ieee.{add, mul, le, ofBits}

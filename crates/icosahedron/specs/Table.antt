@@ -1,9 +1,7 @@
 -- The tables of the full loop. Document 01, "FULL": "20 triples over a fixed table of 12 positions, recorded bit for bit from the Rust". Definitions only.
-use Prim.Native.Nat.{ℕ, zero, suc, _+_, _-_, _*_, _<_}
+use Prim.Native.Nat.{ℕ, _+_, _-_, _*_}
 use mathlib.Core.List.{List, [], _∷_, _++_}
-use mathlib.Core.Bool.{Bool, true, false, _&&_, not, cond}
-use lib.ListN.{length, getD}
-use lib.Dec.{eqb}
+use lib.ListN.{getD}
 use lib.Ieee.{Float, binary64, ofBits, nan}
 use Rattle.laws.specs.Loop.{flat}
 use Rattle.vec3.specs.declared.Vec3.{Vec3}

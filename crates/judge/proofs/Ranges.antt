@@ -1,15 +1,10 @@
 -- A sum of squares in range has finite terms alone. Assumes nothing.
-use mathlib.Core.Path.{_≡_, refl, sym, ap, _∙_}
+use mathlib.Core.Path.{_≡_, refl, sym, _∙_}
 use mathlib.Core.Bool.{Bool, true, false, _&&_, true≢false}
-use mathlib.Core.Logic.{⊎-elim}
-use Prim.Native.Nat.{ℕ}
-use lib.IntN.{ℤ}
-use lib.Ieee.{Float, nan, inf, fin, binary64, ofBits, add, mul, le}
+use lib.Ieee.{Float, nan, inf, fin, ofBits, add, mul, le}
 use Rattle.numbers.specs.F64.{_⊕_, _⊗_}
 use Rattle.numbers.specs.Finite.{finite}
-use Rattle.numbers.specs.Choice.{if_then_else_}
 use Rattle.vec3.specs.declared.Vec3.{Vec3}
-use Rattle.vec3.specs.Vec.{dot}
 use Rattle.judge.specs.Judge.{finiteVec, inRange, withinRange, vectorFault, faultOf}
 
 -- NaN and plus infinity: what a sum of squares is that has a term which is not finite

@@ -1,11 +1,10 @@
 // The one judge of what is handed in: positions and vectors, alone and in lists. A refusal is a number here, 0 for none;
 // the public functions make their answers of it.
 ghost use mathlib.Core.Path.{_≡_};
-ghost use mathlib.Core.Bool.{Bool};
 ghost use Prim.Native.Nat.{_*_, _≤_};
 ghost use lib.ListN.{length};
 ghost use Rattle.laws.specs.Loop as Loop;
-ghost use Rattle.judge.specs.Judge.{finiteVec, withinRange, faultOf, vectorFault, positionsFault, vectorsFault};
+ghost use Rattle.judge.specs.Judge.{finiteVec, faultOf, vectorFault, positionsFault, vectorsFault};
 use vec3::Vec3;
 
 // The ends of the range of a squared norm, 1 - 2^-40 and 1 + 2^-40, both included.

@@ -1,9 +1,9 @@
 -- Refusals as numbers, 0 for none: the first of two, and of many. What none tells, and when one is given. Assumes nothing.
 use Prim.Native.Nat.{ℕ, zero, suc, _+_, _<_}
-use mathlib.Core.Path.{_≡_, refl, sym, ap, _∙_}
+use mathlib.Core.Path.{_≡_, refl}
 use mathlib.Core.Bool.{Bool, true, false, cond}
 use mathlib.Core.Logic.{_⊎_, inl, inr, ⊎-elim}
-use native.Mathlib.Nat.{add-zero, add-suc, not-suc-le-zero}
+use native.Mathlib.Nat.{add-zero, not-suc-le-zero}
 use native.Mathlib.Omega.{arith}
 use Rattle.laws.specs.Loop.{first, firstOf}
 
@@ -54,19 +54,19 @@ firstOf-fine f (suc k) i h =
     first-fine _ _ (rw add-zero at (h 0 (omega arith)))
     (firstOf-fine f k (suc i) (λ j g. let e : suc i + j ≡ i + suc j = omega arith in rw e (h (suc j) (omega arith))))
 
--- the one that is given is that of a place before which there is none
+-- the one that is given is that of an index before which there is none
 pub record GivenAt (f : ℕ → ℕ) (k i r : ℕ) : Type 0 where
-  pub place : ℕ
-  pub within : place < k
-  pub here : f (i + place) ≡ r
-  pub none-before : (j : ℕ) → j < place → f (i + j) ≡ 0
+  pub index : ℕ
+  pub within : index < k
+  pub here : f (i + index) ≡ r
+  pub none-before : (j : ℕ) → j < index → f (i + j) ≡ 0
 
 pub firstOf-given : (f : ℕ → ℕ) (k i r : ℕ) → firstOf f k i ≡ suc r → GivenAt f k i (suc r)
 unfolding firstOf
 firstOf-given f zero i r e = absurd (omega arith)
 firstOf-given f (suc k) i r e =
     ⊎-elim
-    (λ h. record { place = 0; within = omega arith; here = rw add-zero h; none-before = λ j g. absurd (not-suc-le-zero g) })
+    (λ h. record { index = 0; within = omega arith; here = rw add-zero h; none-before = λ j g. absurd (not-suc-le-zero g) })
     (λ h. later (h .0) (firstOf-given f k (suc i) r (h .1)))
     (first-given (f i) (firstOf f k (suc i)) r e)
   where
@@ -79,8 +79,8 @@ firstOf-given f (suc k) i r e =
 
     later : f i ≡ 0 → GivenAt f k (suc i) (suc r) → GivenAt f (suc k) i (suc r)
     later z g = record {
-      place = suc (g .place);
+      index = suc (g .index);
       within = omega (arith, g .within);
-      here = rw (← shifted (g .place)) (g .here);
-      none-before = before (g .place) z (g .none-before);
+      here = rw (← shifted (g .index)) (g .here);
+      none-before = before (g .index) z (g .none-before);
     }

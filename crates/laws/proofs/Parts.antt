@@ -1,24 +1,24 @@
--- A loop taken in parts: k turns, and then those that are left. Assumes nothing.
+-- A loop taken in parts: k iterations, and then those that are left. Assumes nothing.
 use Prim.Native.Nat.{ℕ, zero, suc, _+_, _-_, _≤_, _<_}
 use mathlib.Core.Bool.{Bool, true, false, _||_}
 use mathlib.Core.Path.{_≡_, refl, ap, ap₂, _∙_}
 use mathlib.Core.List.{List, _++_}
 use native.Mathlib.Nat.{add-zero, zero-add}
 use native.Mathlib.Omega.{arith}
-use Rattle.laws.specs.Loop.{anyOf, turns, flat}
-use Rattle.laws.proofs.Loops.{Turn}
+use Rattle.laws.specs.Loop.{anyOf, iterate, flat}
+use Rattle.laws.proofs.Loops.{Iterate}
 
-parted : {A : Type 0} (step : ℕ → A → A) (k r i : ℕ) (a : A) → turns step (k + r) i a ≡ turns step r (i + k) (turns step k i a)
-unfolding turns
+parted : {A : Type 0} (step : ℕ → A → A) (k r i : ℕ) (a : A) → iterate step (k + r) i a ≡ iterate step r (i + k) (iterate step k i a)
+unfolding iterate
 parted step zero r i a = rw (zero-add, add-zero)
 parted step (suc k) r i a =
     let e : suc k + r ≡ suc (k + r) = omega arith in
     let e′ : i + suc k ≡ suc i + k = omega arith in
     rw (e, e′) (parted step k r (suc i) (step i a))
 
--- the turns up to j at once
-pub turn-part : {A : Type 0} {step : ℕ → A → A} {n i : ℕ} {a z : A} → Turn step n i a z → {b : A} {j : ℕ} → b ≡ turns step (j - i) i a → i ≤ j → j ≤ n → Turn step n j b z
-turn-part {step = step} {n = n} {i = i} {a = a} t {j = j} e h g =
+-- the iterations up to j at once
+pub iterate-part : {A : Type 0} {step : ℕ → A → A} {n i : ℕ} {a z : A} → Iterate step n i a z → {b : A} {j : ℕ} → b ≡ iterate step (j - i) i a → i ≤ j → j ≤ n → Iterate step n j b z
+iterate-part {step = step} {n = n} {i = i} {a = a} t {j = j} e h g =
     let q : n - i ≡ (j - i) + (n - j) = omega arith in
     let q′ : i + (j - i) ≡ j = omega arith in
     record { within = g; rest = rw e (rw q′ at ((rw q at (t .rest)) ∙ parted step (j - i) (n - j) i a)) }

@@ -10,7 +10,7 @@ use Rattle.vec3.specs.declared.Vec3.{Vec3}
 use Rattle.loop_header.specs.declared.Header.{Header}
 use Rattle.loop_header.specs.Loops.{loopFault}
 use Rattle.loop_header.proofs.Sounds.{Sound, sound, sound-most, sound-positions, sound-classes}
-use Rattle.loop_ask.specs.Answers.{Told, refused, answer, judged}
+use Rattle.loop_ask.specs.Answers.{Told, refused, judged}
 use Rattle.loop_ask.specs.Questions.{queryFault, pairFault, Comparable}
 
 pub was-refused : (k : ℕ) (t : Told) → (k ≡ 0 → ⊥) → refused k ≡ judged k t

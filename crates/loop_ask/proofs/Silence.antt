@@ -1,27 +1,27 @@
 -- A theorem for silence: `Outside` is answered only if the loop is empty, or three-cornered, or has insides; in every other case the answer is inside, mute or a
 -- refusal. So "outside" is never an empty answer. Assumes nothing.
 use Prim.Native.Nat.{ℕ, zero, suc, _≤_}
-use mathlib.Core.Path.{_≡_, refl, sym, ap, _∙_, subst}
+use mathlib.Core.Path.{_≡_, refl, ap, subst}
 use mathlib.Core.Bool.{Bool, true, false}
 use mathlib.Core.List.{List}
 use native.Mathlib.Omega.{arith}
-use lib.Dec.{eqb, ltb, leb}
+use lib.Dec.{eqb, ltb}
 use lib.Ieee.{Float}
 use borrow.Author.Tests.{ltb-false, leb-true, eqb-true, eqb-false}
 use Rattle.numbers.specs.Choice.{if_then_else_}
 use Rattle.laws.proofs.Firsts.{first-zero}
 use Rattle.vec3.specs.declared.Vec3.{Vec3}
 use Rattle.vec3.specs.Vec.{cleared}
-use Rattle.ring_cut.specs.declared.Insides.{Insides}
-use Rattle.ring_cut.specs.declared.Insides.the-variants.{Absent, Two}
+use Rattle.vec3.specs.declared.Insides.{Insides}
+use Rattle.vec3.specs.declared.Insides.the-variants.{Absent, Two}
 use Rattle.loop_header.specs.declared.State.{State}
 use Rattle.loop_header.specs.declared.State.the-variants.{Empty, Full, Ring}
 use Rattle.loop_header.specs.declared.Header.{Header}
-use Rattle.loop_header.specs.Loops.{countFits, loopFault}
+use Rattle.loop_header.specs.Loops.{countFits}
 use Rattle.loop_header.proofs.Sounds.{sound}
 use Rattle.ring_place.specs.Places.{inTriangle}
 use Rattle.loop_ask.specs.Answers.{Told, refused, answer, judged}
-use Rattle.loop_ask.specs.Places.{insideCode, placeNoCorner, placeWithout, placeBy, placeOf}
+use Rattle.loop_ask.specs.Places.{insideCode, placeNoCorner, placeWithout, placeBy}
 use Rattle.loop_ask.specs.Questions.{queryFault, placeAnswer}
 
 -- a loop that can say what is outside of it

@@ -1,6 +1,6 @@
 -- Where a place lies, as a number: 0 outside, 1 inside, 2 mute. Definitions only.
 use Prim.Native.Nat.{ℕ}
-use mathlib.Core.Bool.{Bool, true, false, cond}
+use mathlib.Core.Bool.{Bool, true, false}
 use mathlib.Core.List.{List}
 use lib.Dec.{eqb, ltb}
 use lib.Ieee.{Float}
@@ -8,8 +8,8 @@ use Rattle.numbers.specs.Choice.{if_then_else_}
 use Rattle.vec3.specs.declared.Vec3.{Vec3}
 use Rattle.vec3.specs.Vec.{cleared}
 use Rattle.cap.specs.declared.Cap.{Cap}
-use Rattle.ring_cut.specs.declared.Insides.{Insides}
-use Rattle.ring_cut.specs.declared.Insides.the-variants.{Absent, Two}
+use Rattle.vec3.specs.declared.Insides.{Insides}
+use Rattle.vec3.specs.declared.Insides.the-variants.{Absent, Two}
 use Rattle.loop_header.specs.declared.State.{State}
 use Rattle.loop_header.specs.declared.State.the-variants.{Empty, Full, Ring}
 use Rattle.loop_header.specs.declared.Header.{Header}

@@ -1,6 +1,6 @@
 // Asking a loop: whether a place lies in it, its triangles, the checker, and the other questions. Each judges what it is handed, then answers.
 ghost use mathlib.Core.Path.{_≡_};
-ghost use Prim.Native.Nat.{ℕ, _*_, _≤_};
+ghost use Prim.Native.Nat.{_*_, _≤_};
 ghost use lib.ListN.{length};
 ghost use Rattle.loop_ask.specs.Answers as An;
 ghost use Rattle.loop_ask.specs.Places as P;
@@ -8,7 +8,7 @@ ghost use Rattle.loop_ask.specs.Questions as Q;
 use cap::Cap;
 use loop_header::Header;
 use loop_header::State;
-use ring_cut::Insides;
+use vec3::Insides;
 use vec3::Vec3;
 
 pub enum Placed {

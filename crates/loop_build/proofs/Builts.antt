@@ -1,25 +1,25 @@
 -- What a built ring is: its count, state and slices agree, its class codes are at most 2 and its positions are fine, so that handed back it is not refused
 -- by cutting or the checker. Of lists of doubles, as every lent slice is. Assumes nothing.
-use Prim.Native.Nat.{ℕ, zero, suc, _+_, _-_, _*_, _/_, _≤_, _<_}
+use Prim.Native.Nat.{ℕ, zero, _+_, _*_, _/_, _≤_, _<_}
 use mathlib.Core.Path.{_≡_, refl, sym, ap, _∙_}
-use mathlib.Core.Bool.{Bool, true, false, cond}
+use mathlib.Core.Bool.{Bool, true, false}
 use mathlib.Core.List.{List, [], _∷_}
-use native.Mathlib.Nat.{add-zero, zero-add, one-mul}
+use native.Mathlib.Nat.{zero-add}
 use native.Mathlib.Omega.{arith}
 use lib.ListN.{length, getD}
-use lib.Dec.{T, ltb}
+use lib.Dec.{T}
 use lib.Ieee.{Float, nan, binary64, fits, lt}
 use borrow.Author.Tests.{le-leb, le-ltb, eq-eqb}
 use Rattle.numbers.specs.F64 as F
 use Rattle.numbers.specs.Near.{near}
 use Rattle.numbers.specs.Choice.{if_then_else_}
-use Rattle.laws.specs.Loop.{flat, firstOf}
+use Rattle.laws.specs.Loop.{flat}
 use Rattle.laws.proofs.Blocks.{getD-flat}
 use Rattle.laws.proofs.Copies.{length-flat}
-use Rattle.laws.proofs.Firsts.{first-zero, first-fine, firstOf-zero, firstOf-fine}
+use Rattle.laws.proofs.Firsts.{firstOf-zero, firstOf-fine}
 use Rattle.vec3.specs.declared.Vec3.{Vec3}
 use Rattle.vec3.specs.Vec.{posAt, coords, vec}
-use Rattle.judge.specs.Judge.{faultOf, positionFault, positionsFault}
+use Rattle.judge.specs.Judge.{positionFault, positionsFault}
 use Rattle.minor_arc.proofs.Clears.{clear-once}
 use Rattle.ring_corners.specs.Corners.{cornerSource, cornerAt, classBy, classAt, ringOf, classesOf}
 use Rattle.vec3.proofs.Arrays.{size, raw-written}
@@ -89,17 +89,17 @@ module _ (l : List Float) (d : Doubles l) (f : listFault l ≡ 0) (reversed : Bo
       let b : 3 * k + 2 < length l = omega (arith, from-list j h, known .threes) in
       clear-once _ _ _ (d (3 * k) (omega arith)) (d (3 * k + 1) (omega arith)) (d (3 * k + 2) b)
 
-  place-fine : (j : ℕ) → j < n → positionFault (ringOf l n reversed) (0 + j) ≡ 0
-  place-fine j h =
-      let p = firstOf-zero (positionFault l) (length l / 3) 0 (known .places) (cornerSource n reversed j) (from-list j h) in
+  position-fine : (j : ℕ) → j < n → positionFault (ringOf l n reversed) (0 + j) ≡ 0
+  position-fine j h =
+      let p = firstOf-zero (positionFault l) (length l / 3) 0 (known .positions-fine) (cornerSource n reversed j) (from-list j h) in
       rw (zero-add j, again (cornerAt l n reversed) n j h clear-corner) (rw zero-add at p)
 
-  pub places-fine : positionsFault (ringOf l n reversed) n ≡ 0
-  places-fine = firstOf-fine (positionFault (ringOf l n reversed)) n 0 place-fine
+  pub positions-fine : positionsFault (ringOf l n reversed) n ≡ 0
+  positions-fine = firstOf-fine (positionFault (ringOf l n reversed)) n 0 position-fine
 
   pub built-cuttable : 3 ≤ n → cutFault (ringHeader l n reversed) (ringOf l n reversed) (classesOf l n reversed) ≡ 0
   unfolding cutFault shapeFault threesOf ringFault ringHeader
   built-cuttable h =
       let s = size (cornerAt l n reversed) n in
       let q = codes-count l n reversed in
-      rw (le-leb 3 n h, eq-eqb _ _ s, eq-eqb _ _ q, le-ltb 512 n (omega (arith, known .small, o)), codes-fine l n reversed) places-fine
+      rw (le-leb 3 n h, eq-eqb _ _ s, eq-eqb _ _ q, le-ltb 512 n (omega (arith, known .small, o)), codes-fine l n reversed) positions-fine

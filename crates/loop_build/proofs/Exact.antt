@@ -1,12 +1,11 @@
 -- Each refusal of `build` is given exactly when document 01's table says, in its order: both directions. Assumes nothing.
-use Prim.Native.Nat.{ℕ, zero, suc, _*_, _/_, _%_, _≤_, _<_}
-use mathlib.Core.Path.{_≡_, refl, sym, _∙_}
-use mathlib.Core.Bool.{Bool, true, false, cond, _&&_, _||_}
-use mathlib.Core.Logic.{_⊎_, inl, inr, ⊎-elim}
+use Prim.Native.Nat.{ℕ, zero, suc, _/_, _%_, _≤_, _<_}
+use mathlib.Core.Path.{_≡_, refl}
+use mathlib.Core.Bool.{Bool, true, false, cond}
+use mathlib.Core.Logic.{⊎-elim}
 use mathlib.Core.List.{List}
-use native.Mathlib.Omega.{arith}
 use lib.ListN.{length}
-use lib.Dec.{eqb, ltb, leb}
+use lib.Dec.{eqb, ltb}
 use lib.Ieee.{Float}
 use borrow.Author.Tests.{eqb-true, eqb-false, eq-eqb, ne-eqb, ltb-true, ltb-false, lt-ltb, le-ltb}
 use Rattle.laws.specs.Loop.{first}
@@ -63,12 +62,12 @@ module _ (l ps ns : List Float) (cs : List ℕ) where
   unfolding listFault
   many-is t m = rw (eq-eqb _ _ t, lt-ltb _ _ m)
 
-  place-is : {r : ℕ} → length l % 3 ≡ 0 → length l / 3 ≤ 512 → positionsFault l (length l / 3) ≡ suc r → listFault l ≡ suc r
+  position-is : {r : ℕ} → length l % 3 ≡ 0 → length l / 3 ≤ 512 → positionsFault l (length l / 3) ≡ suc r → listFault l ≡ suc r
   unfolding listFault
-  place-is t m e = rw (eq-eqb _ _ t, le-ltb _ _ m) e
+  position-is t m e = rw (eq-eqb _ _ t, le-ltb _ _ m) e
 
   pub why-given : (k : ℕ) → Why l ps ns cs k → refusal l ps ns cs ≡ k
   why-given _ (not-threes n) = list-first (threes-is n)
   why-given _ (too-many t m) = list-first (many-is t m)
-  why-given _ (position t m g) = list-first (place-is t m (firstOf-at _ _ _ _ g))
+  why-given _ (position t m g) = list-first (position-is t m (firstOf-at _ _ _ _ g))
   why-given _ (room p q) = unfold refusal in first-right _ _ p q

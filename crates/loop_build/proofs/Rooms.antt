@@ -1,23 +1,21 @@
 -- What no refusal tells of a list and of the room that is lent for its ring. Assumes nothing.
-use Prim.Native.Nat.{ℕ, zero, suc, _*_, _/_, _%_, _≤_}
+use Prim.Native.Nat.{ℕ, _*_, _/_, _%_, _≤_}
 use mathlib.Core.Path.{_≡_, refl}
 use mathlib.Core.Bool.{Bool, true, false, _&&_, _||_}
 use mathlib.Core.List.{List}
 use native.Mathlib.Omega.{arith}
 use lib.ListN.{length}
-use lib.Dec.{leb}
 use lib.Ieee.{Float}
 use borrow.Author.Tests.{eqb-true, ltb-false, le-leb}
 use Rattle.laws.proofs.Firsts.{first-zero, test-none, test-passed}
 use Rattle.judge.specs.Judge.{positionsFault}
-use Rattle.ring_corners.specs.Corners.{opened}
 use Rattle.ring_corners.proofs.Openings.{opened-le}
 use Rattle.loop_build.specs.Build.{listFault, roomFault, openedCount, refusal}
 
 pub record Listed (l : List Float) : Type 0 where
   pub threes : length l % 3 ≡ 0
   pub few : length l / 3 ≤ 512
-  pub places : positionsFault l (length l / 3) ≡ 0
+  pub positions-fine : positionsFault l (length l / 3) ≡ 0
   pub small : openedCount l ≤ 512
   pub within : 3 * openedCount l ≤ length l
 
@@ -29,7 +27,7 @@ list-fine l e =
     let b = first-zero _ _ (a .1) in
     let f : length l / 3 ≤ 512 = ltb-false _ _ (test-none _ _ (b .0)) in
     let o : openedCount l ≤ length l / 3 = opened-le l (length l / 3) in
-    record { threes = t; few = f; places = b .1; small = omega arith; within = omega arith }
+    record { threes = t; few = f; positions-fine = b .1; small = omega arith; within = omega arith }
 
 or-false : (a b : Bool) → a || b ≡ false → (a ≡ false) × (b ≡ false)
 or-false true b e = (e, cc)

@@ -3,10 +3,9 @@ use Prim.Native.Nat.{ℕ}
 use mathlib.Core.Path.{_≡_, refl, sym, ap, _∙_}
 use mathlib.Core.List.{List}
 use lib.Ieee.{Float}
-use Rattle.loop_header.specs.Loops.{emptyHeader}
 use Rattle.loop_build.specs.declared.Built.{Built}
 use Rattle.loop_build.specs.declared.Built.the-variants.{Refused, Loop}
-use Rattle.loop_build.specs.Build.{Told, refused, loop, told, Out, out}
+use Rattle.loop_build.specs.Build.{Told, refused, loop, told, Outcome, buildOutcome}
 
 -- the answer by cases tells each answer from every other
 back : Told → Built
@@ -29,13 +28,13 @@ pub record Same (a b : Built) (ps qs ns ms : List Float) (cs ds : List ℕ) : Ty
 
 -- two outcomes that meet the contract are the same
 pub build-unique : (l ps₀ ns₀ : List Float) (cs₀ : List ℕ) (a b : Built) (ps qs ns ms : List Float) (cs ds : List ℕ)
-    → record { answer = told a; positions = ps; normals = ns; classes = cs } ≡ out l ps₀ ns₀ cs₀
-    → record { answer = told b; positions = qs; normals = ms; classes = ds } ≡ out l ps₀ ns₀ cs₀ → Same a b ps qs ns ms cs ds
+    → record { answer = told a; positions = ps; normals = ns; classes = cs } ≡ buildOutcome l ps₀ ns₀ cs₀
+    → record { answer = told b; positions = qs; normals = ms; classes = ds } ≡ buildOutcome l ps₀ ns₀ cs₀ → Same a b ps qs ns ms cs ds
 build-unique l ps₀ ns₀ cs₀ a b ps qs ns ms cs ds p q =
     let e = p ∙ sym q in
     record {
-      answers = told-apart a b (ap (λ (x : Out). x .answer) e);
-      positions = ap (λ (x : Out). x .positions) e;
-      normals = ap (λ (x : Out). x .normals) e;
-      classes = ap (λ (x : Out). x .classes) e;
+      answers = told-apart a b (ap (λ (x : Outcome). x .answer) e);
+      positions = ap (λ (x : Outcome). x .positions) e;
+      normals = ap (λ (x : Outcome). x .normals) e;
+      classes = ap (λ (x : Outcome). x .classes) e;
     }

@@ -1,6 +1,6 @@
 -- A ring that is written, at the level of lists. Assumes nothing.
-use Prim.Native.Nat.{ℕ, _*_, _≤_}
-use mathlib.Core.Path.{_≡_, refl, sym, ap, _∙_}
+use Prim.Native.Nat.{ℕ, _*_}
+use mathlib.Core.Path.{_≡_, refl, ap, _∙_}
 use mathlib.Core.Bool.{Bool, true, false, not}
 use mathlib.Core.List.{List, [], _∷_, _++_}
 use native.Mathlib.Omega.{arith}
@@ -15,12 +15,12 @@ use Rattle.cap.specs.Caps.{boundingCap}
 use Rattle.ring_turns.specs.Turns.{turnSum, edgeNormals}
 use Rattle.ring_corners.specs.Corners.{cornerAt, classAt, reversal, ringOf, normalsOf, classesOf, allBoth}
 use Rattle.vec3.proofs.Arrays.{size}
-use Rattle.ring_cut.specs.declared.Insides.{Insides}
+use Rattle.vec3.specs.declared.Insides.{Insides}
 use Rattle.ring_cut.specs.Cut.{Ring}
 use Rattle.loop_header.specs.declared.Header.{Header}
 use Rattle.loop_header.specs.declared.State.the-variants as S
 use Rattle.loop_header.specs.Loops.{fullHeader}
-use Rattle.loop_build.specs.Build.{Prepared, prepared, insidesFor, Ready, Lent, Written, written, ringHeader, Made, made}
+use Rattle.loop_build.specs.Build.{Prepared, prepared, insidesFor, Ready, Lent, Written, written, ringHeader, made}
 
 module _ {l : List Float} {n : ℕ} {reversed : Bool} {edges : List Float} {codes : List ℕ} {p q r : ℕ} (d : Ready l n reversed edges codes p q r) where
   pub codes-size : length codes ≡ n

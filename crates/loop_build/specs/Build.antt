@@ -13,8 +13,8 @@ use Rattle.cap.specs.Caps.{boundingCap}
 use Rattle.judge.specs.Judge.{positionsFault}
 use Rattle.ring_turns.specs.Turns.{edgeNormals, turnSum}
 use Rattle.ring_corners.specs.Corners.{opened, reversal, ringOf, normalsOf, classesOf, allBoth}
-use Rattle.ring_cut.specs.declared.Insides.{Insides}
-use Rattle.ring_cut.specs.declared.Insides.the-variants.{Absent, Two}
+use Rattle.vec3.specs.declared.Insides.{Insides}
+use Rattle.vec3.specs.declared.Insides.the-variants.{Absent}
 use Rattle.ring_insides.specs.Insides.{insidesOf}
 use Rattle.loop_header.specs.declared.Header.{Header}
 use Rattle.loop_header.specs.declared.State.the-variants.{Ring}
@@ -133,27 +133,27 @@ told (Refused k) = refused k
 told (Loop h) = loop h
 
 -- what a call comes to: its answer and the three slices
-pub record Out : Type 0 where
+pub record Outcome : Type 0 where
   pub answer : Told
   pub positions : List Float
   pub normals : List Float
   pub classes : List ℕ
 
-abbrev pub kept : Told → List Float → List Float → List ℕ → Out
+abbrev pub kept : Told → List Float → List Float → List ℕ → Outcome
 kept a ps ns cs = record { answer = a; positions = ps; normals = ns; classes = cs }
 
-abbrev pub outOf : Made → Out
-outOf m = record { answer = loop (m .header); positions = m .positions; normals = m .normals; classes = m .classes }
+abbrev pub outcomeOf : Made → Outcome
+outcomeOf m = record { answer = loop (m .header); positions = m .positions; normals = m .normals; classes = m .classes }
 
 -- "Fewer than three left: EMPTY"
-abbrev pub outIf : Bool → List Float → ℕ → List Float → List Float → List ℕ → Out
-outIf true l n ps ns cs = kept (loop emptyHeader) ps ns cs
-outIf false l n ps ns cs = outOf (made l n ps ns cs)
+abbrev pub outcomeIf : Bool → List Float → ℕ → List Float → List Float → List ℕ → Outcome
+outcomeIf true l n ps ns cs = kept (loop emptyHeader) ps ns cs
+outcomeIf false l n ps ns cs = outcomeOf (made l n ps ns cs)
 
 -- by the refusal's number
-abbrev pub outBy : ℕ → List Float → List Float → List Float → List ℕ → Out
-outBy (suc k) l ps ns cs = kept (refused (suc k)) ps ns cs
-outBy zero l ps ns cs = outIf (ltb (openedCount l) 3) l (openedCount l) ps ns cs
+abbrev pub outcomeBy : ℕ → List Float → List Float → List Float → List ℕ → Outcome
+outcomeBy (suc k) l ps ns cs = kept (refused (suc k)) ps ns cs
+outcomeBy zero l ps ns cs = outcomeIf (ltb (openedCount l) 3) l (openedCount l) ps ns cs
 
-unfoldable pub out : List Float → List Float → List Float → List ℕ → Out
-out l ps ns cs = outBy (refusal l ps ns cs) l ps ns cs
+unfoldable pub buildOutcome : List Float → List Float → List Float → List ℕ → Outcome
+buildOutcome l ps ns cs = outcomeBy (refusal l ps ns cs) l ps ns cs

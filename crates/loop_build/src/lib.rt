@@ -7,7 +7,7 @@ ghost use Rattle.loop_build.specs.Build as B;
 use angle::Angle;
 use loop_header::Header;
 use loop_header::State;
-use ring_cut::Insides;
+use vec3::Insides;
 
 pub enum Built {
     Refused(u8),
@@ -194,7 +194,7 @@ fn make_with(
 
 // Builds a loop.
 pub fn build(list: &[f64], positions: &mut [f64], normals: &mut [f64], classes: &mut [u8]) -> Built
-    ensures { λ r. ⌜ record { answer = B.told r; positions = now (positions .exit); normals = now (normals .exit); classes = now (classes .exit) } ≡ B.out (now (list .entry)) (now (positions .entry)) (now (normals .entry)) (now (classes .entry)) ⌝ }
+    ensures { λ r. ⌜ record { answer = B.told r; positions = now (positions .exit); normals = now (normals .exit); classes = now (classes .exit) } ≡ B.buildOutcome (now (list .entry)) (now (positions .entry)) (now (normals .entry)) (now (classes .entry)) ⌝ }
 {
     let f = refusal_of(list, positions, normals, classes);
     if f != 0 {

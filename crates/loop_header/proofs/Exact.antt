@@ -1,6 +1,6 @@
 -- Each refusal of a loop handed back is given exactly when document 01's table says, in its order: both directions. Assumes nothing.
-use Prim.Native.Nat.{ℕ, zero, suc, _+_, _*_, _≤_, _<_}
-use mathlib.Core.Path.{_≡_, refl, sym, ap, _∙_}
+use Prim.Native.Nat.{ℕ, zero, suc, _+_, _≤_, _<_}
+use mathlib.Core.Path.{_≡_, refl, sym, _∙_}
 use mathlib.Core.Bool.{Bool, true, false, cond, _&&_}
 use mathlib.Core.Logic.{_⊎_, inl, inr, ⊎-elim}
 use mathlib.Core.List.{List}
@@ -9,28 +9,27 @@ use native.Mathlib.Omega.{arith}
 use lib.ListN.{length}
 use lib.Dec.{eqb, ltb}
 use lib.Ieee.{Float}
-use borrow.Author.Tests.{eqb-true, eq-eqb, ltb-true, ltb-false, lt-ltb, le-ltb}
+use borrow.Author.Tests.{ltb-true, ltb-false, lt-ltb, le-ltb}
 use Rattle.laws.specs.Loop.{first, firstOf}
-use Rattle.laws.proofs.Firsts.{first-zero, first-fine, first-given, first-left, first-right, test-none, test-passed, GivenAt, firstOf-given}
+use Rattle.laws.proofs.Firsts.{first-zero, first-given, first-left, first-right, GivenAt, firstOf-given}
 use Rattle.judge.specs.Judge.{positionFault, positionsFault}
 use Rattle.loop_header.specs.declared.Header.{Header}
 use Rattle.loop_header.specs.Loops.{countFits, threesOf, shapeFault, classFault, classesFault, ringFault, vectorsFault, loopFault}
-use Rattle.loop_header.proofs.Shapes.{Shape, shape}
 
 -- the converse of `firstOf-given`
 shifted : (i p : ℕ) → i + suc p ≡ suc i + p
 shifted i p = omega arith
 
-at-place : (f : ℕ → ℕ) (r k i p : ℕ) → p < k → f (i + p) ≡ suc r → ((j : ℕ) → j < p → f (i + j) ≡ 0) → firstOf f k i ≡ suc r
+at-index : (f : ℕ → ℕ) (r k i p : ℕ) → p < k → f (i + p) ≡ suc r → ((j : ℕ) → j < p → f (i + j) ≡ 0) → firstOf f k i ≡ suc r
 unfolding firstOf
-at-place f r zero i p h e n = absurd (not-suc-le-zero h)
-at-place f r (suc k) i zero h e n = first-left (f i) _ r (rw add-zero at e)
-at-place f r (suc k) i (suc p) h e n =
+at-index f r zero i p h e n = absurd (not-suc-le-zero h)
+at-index f r (suc k) i zero h e n = first-left (f i) _ r (rw add-zero at e)
+at-index f r (suc k) i (suc p) h e n =
     first-right (f i) _ (rw add-zero at (n 0 (omega arith)))
-    (at-place f r k (suc i) p (omega arith) (rw (shifted i p) at e) (λ j g. rw (shifted i j) at (n (suc j) (omega arith))))
+    (at-index f r k (suc i) p (omega arith) (rw (shifted i p) at e) (λ j g. rw (shifted i j) at (n (suc j) (omega arith))))
 
 pub firstOf-at : (f : ℕ → ℕ) (k i r : ℕ) → GivenAt f k i (suc r) → firstOf f k i ≡ suc r
-firstOf-at f k i r g = at-place f r k i (g .place) (g .within) (g .here) (g .none-before)
+firstOf-at f k i r g = at-index f r k i (g .index) (g .within) (g .here) (g .none-before)
 
 -- a whole loop has the right shape: the count fits the state, and each slice agrees with it
 pub record Whole (h : Header) (ps ns : List Float) (cs : List ℕ) : Type 0 where
@@ -103,9 +102,9 @@ module _ (h : Header) (ps ns : List Float) (cs : List ℕ) where
   unfolding ringFault
   code-first {r} m e = rw (le-ltb 512 (h .count) m) (first-left _ _ r e)
 
-  place-first : {r : ℕ} → h .count ≤ 512 → classesFault cs ≡ 0 → positionsFault ps (h .count) ≡ suc r → ringFault h ps cs ≡ suc r
+  position-first : {r : ℕ} → h .count ≤ 512 → classesFault cs ≡ 0 → positionsFault ps (h .count) ≡ suc r → ringFault h ps cs ≡ suc r
   unfolding ringFault
-  place-first m c e = rw (le-ltb 512 (h .count) m) (first-right _ _ c e)
+  position-first m c e = rw (le-ltb 512 (h .count) m) (first-right _ _ c e)
 
   many-first : 512 < h .count → ringFault h ps cs ≡ 2
   unfolding ringFault
@@ -120,5 +119,5 @@ module _ (h : Header) (ps ns : List Float) (cs : List ℕ) where
   why-given _ (misshapen (inr p)) = unfold loopFault in rw (p .0, p .1)
   why-given _ (too-many w m) = within-whole w ∙ ring-first (many-first m)
   why-given _ (code w m g) = within-whole w ∙ ring-first (code-first m (codes-at g))
-  why-given _ (position w m c g) = within-whole w ∙ ring-first (place-first m c (firstOf-at _ _ _ _ g))
+  why-given _ (position w m c g) = within-whole w ∙ ring-first (position-first m c (firstOf-at _ _ _ _ g))
   why-given _ (vectors w p q) = within-whole w ∙ first-right _ _ p q

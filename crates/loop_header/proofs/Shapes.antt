@@ -1,5 +1,5 @@
 -- A slice that is in threes, by quotient and remainder, and what a judge of 0 tells. Assumes nothing.
-use Prim.Native.Nat.{ℕ, zero, suc, _*_, _/_, _%_, _≤_}
+use Prim.Native.Nat.{ℕ, suc, _*_, _/_, _%_}
 use mathlib.Core.Path.{_≡_, refl, sym}
 use mathlib.Core.Bool.{Bool, true, false, _&&_, cond}
 use mathlib.Core.List.{List}
@@ -8,7 +8,6 @@ use lib.Dec.{eqb}
 use lib.ListN.{length}
 use lib.Ieee.{Float}
 use borrow.Author.Tests.{eqb-true, eq-eqb}
-use Rattle.laws.specs.Loop.{first}
 use Rattle.loop_header.specs.declared.Header.{Header}
 use Rattle.loop_header.specs.Loops.{countFits, threesOf, shapeFault}
 

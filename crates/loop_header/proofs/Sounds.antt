@@ -1,7 +1,6 @@
 -- What no refusal tells of a loop that is handed back. Assumes nothing.
-use Prim.Native.Nat.{ℕ, zero, suc, _*_, _%_, _≤_}
-use mathlib.Core.Path.{_≡_, refl, sym, _∙_}
-use mathlib.Core.Bool.{Bool, true, false}
+use Prim.Native.Nat.{ℕ, _*_, _%_, _≤_}
+use mathlib.Core.Path.{_≡_, refl}
 use mathlib.Core.List.{List}
 use native.Mathlib.Omega.{arith}
 use lib.ListN.{length}
@@ -12,7 +11,7 @@ use Rattle.judge.specs.Judge.{positionsFault}
 use Rattle.loop_header.specs.declared.State.{State}
 use Rattle.loop_header.specs.declared.State.the-variants.{Empty, Full, Ring}
 use Rattle.loop_header.specs.declared.Header.{Header}
-use Rattle.loop_header.specs.Loops.{countFits, threesOf, shapeFault, ringFault, classesFault, cutFault, ringOnly, checkFault, vectorsFault, loopFault}
+use Rattle.loop_header.specs.Loops.{shapeFault, ringFault, classesFault, cutFault, ringOnly, checkFault, vectorsFault, loopFault}
 use Rattle.loop_header.proofs.Shapes.{Shape, shape, threes-length}
 
 -- a loop without its normals, cap and insides
@@ -20,14 +19,14 @@ pub record Cuttable (h : Header) (ps : List Float) (cs : List ℕ) : Type 0 wher
   pub shaped : Shape h ps cs
   pub most : h .count ≤ 512
   pub codes : classesFault cs ≡ 0
-  pub places : positionsFault ps (h .count) ≡ 0
+  pub positions-fine : positionsFault ps (h .count) ≡ 0
 
 ring-fine : (h : Header) (ps : List Float) (cs : List ℕ) → shapeFault h ps cs ≡ 0 → ringFault h ps cs ≡ 0 → Cuttable h ps cs
 unfolding ringFault
 ring-fine h ps cs p q =
     let a = first-zero _ _ q in
     let b = first-zero _ _ (a .1) in
-    record { shaped = shape h ps cs p; most = ltb-false _ _ (test-none _ _ (a .0)); codes = b .0; places = b .1 }
+    record { shaped = shape h ps cs p; most = ltb-false _ _ (test-none _ _ (a .0)); codes = b .0; positions-fine = b .1 }
 
 pub cuttable : (h : Header) (ps : List Float) (cs : List ℕ) → cutFault h ps cs ≡ 0 → Cuttable h ps cs
 unfolding cutFault

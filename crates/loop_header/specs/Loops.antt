@@ -1,17 +1,16 @@
 -- A loop's header, and what a loop that is handed back is refused for: the number, 0 for none. Document 01's table and the paragraph under it. Definitions only.
 use Prim.Native.Nat.{ℕ, _*_, _%_}
-use mathlib.Core.Bool.{Bool, true, false, _&&_, not, cond}
+use mathlib.Core.Bool.{Bool, true, false, _&&_, cond}
 use mathlib.Core.List.{List}
 use lib.ListN.{length, getD}
 use lib.Dec.{ltb, leb, eqb}
 use lib.Ieee.{Float}
 use Rattle.numbers.specs.Finite.{finite}
 use Rattle.laws.specs.Loop.{first, firstOf}
-use Rattle.vec3.specs.declared.Vec3.{Vec3}
 use Rattle.cap.specs.declared.Cap.{Cap}
 use Rattle.cap.specs.Caps.{emptyOne, fullOne}
-use Rattle.ring_cut.specs.declared.Insides.{Insides}
-use Rattle.ring_cut.specs.declared.Insides.the-variants.{Absent, Two}
+use Rattle.vec3.specs.declared.Insides.{Insides}
+use Rattle.vec3.specs.declared.Insides.the-variants.{Absent, Two}
 use Rattle.judge.specs.Judge.{finiteVec, vectorFault, positionsFault}
 use Rattle.judge.specs.Judge as J
 use Rattle.loop_header.specs.declared.State.{State}

@@ -1,11 +1,10 @@
 // A loop's header, and the one judge of a loop that is handed back. A refusal is a number here, 0 for none.
 ghost use mathlib.Core.Path.{_≡_};
-ghost use Prim.Native.Nat.{ℕ, _*_, _≤_};
+ghost use Prim.Native.Nat.{_*_, _≤_};
 ghost use lib.ListN.{length};
 ghost use Rattle.loop_header.specs.Loops as L;
 use cap::Cap;
-use ring_cut::Insides;
-use vec3::Vec3;
+use vec3::Insides;
 
 pub enum State {
     Empty,

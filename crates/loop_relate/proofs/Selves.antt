@@ -1,11 +1,10 @@
 -- A loop that is not refused, related to itself, is Equal where its cap meets itself or it is full or empty. Assumes nothing.
 use Prim.Native.Nat.{ℕ, zero, suc, _+_, _*_, _%_, _≤_, _<_}
-use mathlib.Core.Path.{_≡_, refl, sym, ap, _∙_}
-use mathlib.Core.Bool.{Bool, true, false, not, _&&_, _||_, Bool·beq}
+use mathlib.Core.Path.{_≡_, refl, ap, _∙_}
+use mathlib.Core.Bool.{Bool, true, false, not, Bool·beq}
 use mathlib.Core.List.{List}
 use native.Mathlib.Nat.{add-zero, mod-eq-of-lt}
 use native.Mathlib.Omega.{arith}
-use lib.Dec.{eqb}
 use lib.ListN.{getD}
 use lib.Ieee.{Float, nan, inf, fin, up, down, eq}
 use borrow.Author.Tests.{eq-eqb, ne-eqb, leb-true}
@@ -16,7 +15,7 @@ use Rattle.laws.proofs.Firsts.{first-fine, firstOf-zero}
 use Rattle.vec3.specs.declared.Vec3.{Vec3}
 use Rattle.vec3.specs.Vec.{same, posAt}
 use Rattle.judge.specs.Judge.{finiteVec, vectorFault, faultOf, positionFault, positionsFault}
-use Rattle.cap.specs.Caps.{meet}
+use Rattle.cap.specs.Caps.{intersects}
 use Rattle.loop_header.specs.declared.State.{State}
 use Rattle.loop_header.specs.declared.State.the-variants.{Empty, Full, Ring}
 use Rattle.loop_header.specs.declared.Header.{Header}
@@ -24,7 +23,7 @@ use Rattle.loop_header.specs.Loops.{countFits, loopFault}
 use Rattle.loop_header.proofs.Shapes.{both-true}
 use Rattle.loop_header.proofs.Sounds.{Sound, sound}
 use Rattle.ring_shape.specs.Shapes.{agree, beside, agreeAt, allAgree, sameRings}
-use Rattle.loop_ask.specs.Answers.{answer, judged}
+use Rattle.loop_ask.specs.Answers.{answer}
 use Rattle.loop_ask.specs.Questions.{pairFault, equivalentLoops}
 use Rattle.loop_ask.specs.Places.{clearedCap}
 use Rattle.loop_relate.specs.Relations.{byCaps, byStates, relateAnswer}
@@ -86,7 +85,7 @@ same-rings ps cs (suc k) h e = simp (all-agree ps cs (suc k) e)
 pub data Meets (h : Header) : Type 0 where
   full : h .state ≡ Full → Meets h
   empty : h .state ≡ Empty → Meets h
-  by-cap : meet (clearedCap (h .cap)) (clearedCap (h .cap)) ≡ true → Meets h
+  by-cap : intersects (clearedCap (h .cap)) (clearedCap (h .cap)) ≡ true → Meets h
 
 module _ (h : Header) (ps ns : List Float) (cs : List ℕ) (s : Sound h ps ns cs) where
   equivalent-ring : h .state ≡ Ring → equivalentLoops h ps cs h ps cs ≡ true
@@ -94,9 +93,9 @@ module _ (h : Header) (ps ns : List Float) (cs : List ℕ) (s : Sound h ps ns cs
   equivalent-ring e =
       let c : countFits Ring (h .count) ≡ true = rw e at (s .ring .shaped .fits) in
       let least : 3 ≤ h .count = leb-true 3 (h .count) c in
-      simp (eq-eqb (h .count) (h .count) refl, ne-eqb (h .count) 0 (λ z. omega arith), same-rings ps cs (h .count) (omega arith) (s .ring .places))
+      simp (eq-eqb (h .count) (h .count) refl, ne-eqb (h .count) 0 (λ z. omega arith), same-rings ps cs (h .count) (omega arith) (s .ring .positions-fine))
 
-  by-state : (t : State) → h .state ≡ t → meet (clearedCap (h .cap)) (clearedCap (h .cap)) ≡ true → byStates h ps ns cs h ps ns cs ≡ answer 5
+  by-state : (t : State) → h .state ≡ t → intersects (clearedCap (h .cap)) (clearedCap (h .cap)) ≡ true → byStates h ps ns cs h ps ns cs ≡ answer 5
   unfolding byStates byCaps
   by-state Full e m = simp e
   by-state Empty e m = simp e

@@ -1,7 +1,7 @@
 -- Refusal 7 of `relate`, exactly when it is given: each loop lies in the other, and nothing that is asked before decides. Assumes nothing.
 use Prim.Native.Nat.{ℕ, zero, suc, _≤_}
-use mathlib.Core.Path.{_≡_, refl, sym, ap, _∙_}
-use mathlib.Core.Bool.{Bool, true, false, not, _&&_, cond}
+use mathlib.Core.Path.{_≡_, refl, ap}
+use mathlib.Core.Bool.{Bool, true, false, _&&_, cond}
 use mathlib.Core.List.{List}
 use native.Mathlib.Omega.{arith}
 use lib.Dec.{ltb, eqb}
@@ -14,9 +14,9 @@ use Rattle.numbers.specs.Finite.{finite}
 use Rattle.vec3.specs.declared.Vec3.{Vec3}
 use Rattle.vec3.specs.Vec.{posAt}
 use Rattle.cap.specs.declared.Cap.{Cap}
-use Rattle.cap.specs.Caps.{meet}
-use Rattle.ring_cut.specs.declared.Insides.{Insides}
-use Rattle.ring_cut.specs.declared.Insides.the-variants.{Absent, Two}
+use Rattle.cap.specs.Caps.{intersects}
+use Rattle.vec3.specs.declared.Insides.{Insides}
+use Rattle.vec3.specs.declared.Insides.the-variants.{Absent, Two}
 use Rattle.judge.specs.Judge.{finiteVec, withinRange, vectorFault, faultOf, positionFault, normalFault}
 use Rattle.loop_header.specs.declared.Header.{Header}
 use Rattle.loop_header.specs.Loops.{countFits, threesOf, shapeFault, classFault, classesFault, ringFault, capFault, insidesFault, vectorsFault, loopFault}
@@ -137,7 +137,7 @@ module _ (h : Header) (ps ns : List Float) (cs : List ℕ) (o : Header) (qs ms :
     pub accepted : pairFault h ps ns cs o qs ms ds ≡ 0
     pub not-full : fullState (h .state) ≡ false
     pub not-empty : emptyState (h .state) && emptyState (o .state) ≡ false
-    pub meeting : meet (clearedCap (h .cap)) (clearedCap (o .cap)) ≡ true
+    pub meeting : intersects (clearedCap (h .cap)) (clearedCap (o .cap)) ≡ true
     pub different : equivalentLoops h ps cs o qs ds ≡ false
     pub uncrossed : isCrossed (contactOf ps ns (h .count) qs ms (o .count)) ≡ false
     pub first-in : liesIn h ps o qs ms ≡ true

@@ -5,14 +5,14 @@ use mathlib.Core.List.{List}
 use lib.ListN.{length}
 use lib.Ieee.{Float}
 use Rattle.vec3.specs.declared.Vec3.{Vec3}
-use Rattle.cap.specs.Caps.{meet}
+use Rattle.cap.specs.Caps.{intersects}
 use Rattle.loop_header.specs.declared.State.{State}
 use Rattle.loop_header.specs.declared.State.the-variants.{Empty, Full, Ring}
 use Rattle.loop_header.specs.declared.Header.{Header}
 use Rattle.ring_pair.specs.declared.Probe.{Probe}
 use Rattle.ring_pair.specs.declared.Probe.the-variants.{Nowhere, Corner, Middle}
 use Rattle.ring_pair.specs.Contacts.{isCrossed, isTouched, contactOf}
-use Rattle.ring_pair.specs.Probes.{probeOf, askedMidpoint}
+use Rattle.ring_pair.specs.Probes.{unambiguousPoint, askedMidpoint}
 use Rattle.loop_ask.specs.Answers.{Told, refused, answer, judged}
 use Rattle.loop_ask.specs.Places.{clearedCap, placeOf}
 use Rattle.loop_ask.specs.Questions.{fullState, pairFault, equivalentLoops}
@@ -61,7 +61,7 @@ probeInside (Middle p) o qs ms = placedInside o qs ms p
 
 -- a point of the first that is on no edge of the second lies in the second
 unfoldable pub liesIn : Header → List Float → Header → List Float → List Float → Bool
-liesIn h ps o qs ms = probeInside (probeOf ps (h .count) qs ms (o .count)) o qs ms
+liesIn h ps o qs ms = probeInside (unambiguousPoint ps (h .count) qs ms (o .count)) o qs ms
 
 -- 7: "`relate` finds each loop in the other where the Rust stops"
 abbrev pub byContainment : Bool → Bool → Bool → Told
@@ -92,7 +92,7 @@ disjointIf false t = t
 
 unfoldable pub byCaps : Header → List Float → List Float → List ℕ → Header → List Float → List Float → List ℕ → Told
 byCaps h ps ns cs o qs ms ds =
-    disjointIf (not (meet (clearedCap (h .cap)) (clearedCap (o .cap))))
+    disjointIf (not (intersects (clearedCap (h .cap)) (clearedCap (o .cap))))
     (equalIf (equivalentLoops h ps cs o qs ds) (byEdges h ps ns o qs ms))
 
 -- the full loop contains every other; two full or two empty ones are equal

@@ -1,6 +1,5 @@
 // How two loops stand to each other, by the stages of the source in its order. Where the source stops at `unreachable!`, refusal 7 is given.
 ghost use mathlib.Core.Path.{_≡_};
-ghost use mathlib.Core.Bool.{Bool};
 ghost use Prim.Native.Nat.{_*_, _≤_};
 ghost use lib.ListN.{length};
 ghost use Rattle.loop_ask.specs.Answers as An;

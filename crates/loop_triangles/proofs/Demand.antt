@@ -5,20 +5,19 @@ use mathlib.Core.Bool.{Bool, true, false}
 use mathlib.Core.List.{List, _++_}
 use native.Mathlib.Omega.{arith}
 use lib.ListN.{length, drop}
-use lib.Dec.{ltb}
 use lib.Ieee.{Float}
 use borrow.Author.Tests.{le-ltb}
 use Rattle.ring_theory.specs.Demand3.{Demand3}
 use Rattle.ring_cut.specs.Cut as C
 use Rattle.ring_cut.specs.Accepted.{CutBy, Eligible, Lowest}
 use Rattle.ring_check.specs.Accepted.{accepted}
-use Rattle.ring_check.specs.Demand.{Demand, MeetsNoEar}
+use Rattle.ring_check.specs.Demand.{MeetsNoEar}
 use Rattle.ring_check.proofs.Theorems.{demand}
 use Rattle.loop_header.specs.declared.Header.{Header}
 use Rattle.loop_header.specs.declared.State.the-variants.{Ring}
 use Rattle.loop_header.specs.Loops.{cutFault, checkFault}
-use Rattle.loop_ask.specs.Answers.{Told, refused, answer, boolTold, judged}
-use Rattle.loop_triangles.specs.Triangles.{Out, out, cutTold, laid, ringOut, stateOut, cutOut, acceptsAnswer}
+use Rattle.loop_ask.specs.Answers.{refused, answer, boolTold, judged}
+use Rattle.loop_triangles.specs.Triangles.{Outcome, outcome, laid, ringOutcome, triangulateOutcome, acceptsAnswer}
 use Rattle.loop_triangles.proofs.Outs.{check-ring, cut-ring}
 
 -- ---- the checker
@@ -53,34 +52,34 @@ module _ (h : Header) (ps : List Float) (cs tris : List ℕ) (f : cutFault h ps 
   whole : C.Ring ps cs
   whole = cut-ring h ps cs refl f r
 
-  pub cut-is : cutOut h ps cs tris ≡ laid (C.outOf ps cs tris) (length cs - 2)
-  unfolding cutOut ringOut
+  pub cut-is : triangulateOutcome h ps cs tris ≡ laid (C.cutRingOutcome ps cs tris) (length cs - 2)
+  unfolding triangulateOutcome ringOutcome
   cut-is = rw (f, r, le-ltb _ _ room)
 
-  stuck-out : C.cuttingOf ps cs .stuck ≡ true → C.outOf ps cs tris ≡ record { answer = false; out = tris }
-  unfolding C.outOf
+  stuck-out : C.cuttingOf ps cs .stuck ≡ true → C.cutRingOutcome ps cs tris ≡ record { answer = false; out = tris }
+  unfolding C.cutRingOutcome
   stuck-out e = rw e
 
-  cut-through : C.cuttingOf ps cs .stuck ≡ false → C.outOf ps cs tris ≡ record { answer = true; out = C.cuttingOf ps cs .triangles ++ drop (length (C.cuttingOf ps cs .triangles)) tris }
-  unfolding C.outOf
+  cut-through : C.cuttingOf ps cs .stuck ≡ false → C.cutRingOutcome ps cs tris ≡ record { answer = true; out = C.cuttingOf ps cs .triangles ++ drop (length (C.cuttingOf ps cs .triangles)) tris }
+  unfolding C.cutRingOutcome
   cut-through e = rw e
 
   -- it refuses exactly if a ring above three that it reaches has no eligible ear, and then changes nothing
-  pub no-ear-refused : MeetsNoEar ps (C.wholeRing cs) → cutOut h ps cs tris ≡ out (refused 8) tris
-  no-ear-refused m = cut-is ∙ ap (λ (o : C.Out). laid o (length cs - 2)) (stuck-out (demand ps cs (whole .least) .meets-stuck m))
+  pub no-ear-refused : MeetsNoEar ps (C.wholeRing cs) → triangulateOutcome h ps cs tris ≡ outcome (refused 8) tris
+  no-ear-refused m = cut-is ∙ ap (λ (o : C.Outcome). laid o (length cs - 2)) (stuck-out (demand ps cs (whole .least) .meets-stuck m))
 
-  stuck-or : (b : Bool) → C.cuttingOf ps cs .stuck ≡ b → cutOut h ps cs tris .answer ≡ refused 8 → b ≡ true
+  stuck-or : (b : Bool) → C.cuttingOf ps cs .stuck ≡ b → triangulateOutcome h ps cs tris .answer ≡ refused 8 → b ≡ true
   stuck-or true e q = refl
   stuck-or false e q =
-      let a : answer (length cs - 2) ≡ refused 8 = sym (ap (λ (o : Out). o .answer) (cut-is ∙ ap (λ (o : C.Out). laid o (length cs - 2)) (cut-through e))) ∙ q in
+      let a : answer (length cs - 2) ≡ refused 8 = sym (ap (λ (o : Outcome). o .answer) (cut-is ∙ ap (λ (o : C.Outcome). laid o (length cs - 2)) (cut-through e))) ∙ q in
       let z : _≡_ {A = ℕ} 0 1 = cc in
       absurd (omega arith)
 
-  pub refused-no-ear : cutOut h ps cs tris .answer ≡ refused 8 → MeetsNoEar ps (C.wholeRing cs)
+  pub refused-no-ear : triangulateOutcome h ps cs tris .answer ≡ refused 8 → MeetsNoEar ps (C.wholeRing cs)
   refused-no-ear q = demand ps cs (whole .least) .stuck-meets (stuck-or (C.cuttingOf ps cs .stuck) refl q)
 
   -- otherwise it answers n - 2, and what it leaves begins with a list that takes the lowest ear each time and that the checker accepts
   pub cut-lowest : C.cuttingOf ps cs .stuck ≡ false
-      → (cutOut h ps cs tris ≡ out (answer (length cs - 2)) (C.cuttingOf ps cs .triangles ++ drop (length (C.cuttingOf ps cs .triangles)) tris))
+      → (triangulateOutcome h ps cs tris ≡ outcome (answer (length cs - 2)) (C.cuttingOf ps cs .triangles ++ drop (length (C.cuttingOf ps cs .triangles)) tris))
       × CutBy ps (Lowest ps) (C.wholeRing cs) (C.cuttingOf ps cs .triangles) × (accepted ps cs (C.cuttingOf ps cs .triangles) ≡ true)
-  cut-lowest e = (cut-is ∙ ap (λ (o : C.Out). laid o (length cs - 2)) (cut-through e), demand ps cs (whole .least) .lowest e, demand ps cs (whole .least) .own-list e)
+  cut-lowest e = (cut-is ∙ ap (λ (o : C.Outcome). laid o (length cs - 2)) (cut-through e), demand ps cs (whole .least) .lowest e, demand ps cs (whole .least) .own-list e)

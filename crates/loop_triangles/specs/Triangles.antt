@@ -22,44 +22,44 @@ toldCut (Refused k) = refused k
 toldCut (Triangles n) = answer n
 
 -- an answer, and the output at exit
-pub record Out : Type 0 where
+pub record Outcome : Type 0 where
   pub answer : Told
   pub triangles : List ℕ
 
-abbrev pub out : Told → List ℕ → Out
-out t l = record { answer = t; triangles = l }
+abbrev pub outcome : Told → List ℕ → Outcome
+outcome t l = record { answer = t; triangles = l }
 
 -- 5: "an output is shorter than the result needs"
-abbrev pub roomy : Bool → List ℕ → Out → Out
-roomy true tris o = out (refused 5) tris
+abbrev pub roomy : Bool → List ℕ → Outcome → Outcome
+roomy true tris o = outcome (refused 5) tris
 roomy false tris o = o
 
-unfoldable pub fullOut : List ℕ → Out
-fullOut tris = roomy (ltb (length tris) 60) tris (out (answer 20) (triples ++ drop 60 tris))
+unfoldable pub fullOutcome : List ℕ → Outcome
+fullOutcome tris = roomy (ltb (length tris) 60) tris (outcome (answer 20) (triples ++ drop 60 tris))
 
 -- n - 2 triples, or 8 where "a ring above three it reaches has no eligible ear"
 abbrev pub cutTold : Bool → ℕ → Told
 cutTold true n = answer n
 cutTold false n = refused 8
 
-abbrev pub laid : C.Out → ℕ → Out
-laid o n = out (cutTold (o .answer) n) (o .out)
+abbrev pub laid : C.Outcome → ℕ → Outcome
+laid o n = outcome (cutTold (o .answer) n) (o .out)
 
 -- "for a ring's triangles by n-2, before 8"
-unfoldable pub ringOut : List Float → List ℕ → List ℕ → Out
-ringOut ps cs tris = roomy (ltb (length tris) (3 * (length cs - 2))) tris (laid (C.outOf ps cs tris) (length cs - 2))
+unfoldable pub ringOutcome : List Float → List ℕ → List ℕ → Outcome
+ringOutcome ps cs tris = roomy (ltb (length tris) (3 * (length cs - 2))) tris (laid (C.cutRingOutcome ps cs tris) (length cs - 2))
 
-abbrev pub stateOut : State → List Float → List ℕ → List ℕ → Out
-stateOut Empty ps cs tris = out (answer 0) tris
-stateOut Full ps cs tris = fullOut tris
-stateOut Ring ps cs tris = ringOut ps cs tris
+abbrev pub stateOutcome : State → List Float → List ℕ → List ℕ → Outcome
+stateOutcome Empty ps cs tris = outcome (answer 0) tris
+stateOutcome Full ps cs tris = fullOutcome tris
+stateOutcome Ring ps cs tris = ringOutcome ps cs tris
 
-abbrev pub outBy : ℕ → List ℕ → Out → Out
-outBy zero tris o = o
-outBy (suc k) tris o = out (refused (suc k)) tris
+abbrev pub outcomeBy : ℕ → List ℕ → Outcome → Outcome
+outcomeBy zero tris o = o
+outcomeBy (suc k) tris o = outcome (refused (suc k)) tris
 
-unfoldable pub cutOut : Header → List Float → List ℕ → List ℕ → Out
-cutOut h ps cs tris = outBy (cutFault h ps cs) tris (stateOut (h .state) ps cs tris)
+unfoldable pub triangulateOutcome : Header → List Float → List ℕ → List ℕ → Outcome
+triangulateOutcome h ps cs tris = outcomeBy (cutFault h ps cs) tris (stateOutcome (h .state) ps cs tris)
 
 -- the checker: yes exactly for accepted lists
 unfoldable pub acceptsAnswer : Header → List Float → List ℕ → List ℕ → Told

@@ -1,7 +1,6 @@
 // The triangles of a loop as ring numbers, and the checker of such lists. Both read a loop's count, state, positions and classes alone.
 ghost use mathlib.Core.Path.{_≡_};
-ghost use Prim.Native.Nat.{_-_, _*_, _≤_};
-ghost use lib.ListN.{length};
+ghost use Prim.Native.Nat.{_-_, _*_};
 ghost use Rattle.ring_cut.specs.Cut.{Ring};
 ghost use Rattle.loop_ask.specs.Answers as An;
 ghost use Rattle.loop_triangles.specs.Triangles as Tri;
@@ -16,7 +15,7 @@ pub enum Cut {
 
 // The full loop: 20 triples over the recorded 12 positions.
 fn cut_full(triangles: &mut [u16]) -> Cut
-    ensures { λ r. ⌜ record { answer = Tri.toldCut r; triangles = now (triangles .exit) } ≡ Tri.fullOut (now (triangles .entry)) ⌝ }
+    ensures { λ r. ⌜ record { answer = Tri.toldCut r; triangles = now (triangles .exit) } ≡ Tri.fullOutcome (now (triangles .entry)) ⌝ }
 {
     if triangles.len() < 60 {
         return Cut::Refused(5);
@@ -28,7 +27,7 @@ fn cut_full(triangles: &mut [u16]) -> Cut
 // A ring: 5 by n - 2, before 8.
 fn cut_corners(positions: &[f64], classes: &[u8], triangles: &mut [u16]) -> Cut
     requires { ⌜ Ring (now positions) (now classes) ⌝ }
-    ensures { λ r. ⌜ record { answer = Tri.toldCut r; triangles = now (triangles .exit) } ≡ Tri.ringOut (now (positions .entry)) (now (classes .entry)) (now (triangles .entry)) ⌝ }
+    ensures { λ r. ⌜ record { answer = Tri.toldCut r; triangles = now (triangles .exit) } ≡ Tri.ringOutcome (now (positions .entry)) (now (classes .entry)) (now (triangles .entry)) ⌝ }
 {
     let n = classes.len();
     if triangles.len() < 3 * (n - 2) {
@@ -43,7 +42,7 @@ fn cut_corners(positions: &[f64], classes: &[u8], triangles: &mut [u16]) -> Cut
 
 // Cuts a loop into triangles. Nothing is written on a refusal, on 8 after several cuts too.
 pub fn triangulate(h: Header, positions: &[f64], classes: &[u8], triangles: &mut [u16]) -> Cut
-    ensures { λ r. ⌜ record { answer = Tri.toldCut r; triangles = now (triangles .exit) } ≡ Tri.cutOut h (now (positions .entry)) (now (classes .entry)) (now (triangles .entry)) ⌝ }
+    ensures { λ r. ⌜ record { answer = Tri.toldCut r; triangles = now (triangles .exit) } ≡ Tri.triangulateOutcome h (now (positions .entry)) (now (classes .entry)) (now (triangles .entry)) ⌝ }
 {
     let f = loop_header::cut_fault(h, positions, classes);
     if f != 0 {

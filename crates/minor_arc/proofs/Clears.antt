@@ -1,12 +1,12 @@
 -- 0.0 + x is x for every x of the format but -0.0: a vector is cleared once for all, and an arc is the opposite of its opposite. Assumes nothing.
 use mathlib.Core.Path.{_≡_, refl, sym, ap, _∙_, subst}
-use mathlib.Core.Bool.{Bool, true, false, not, cond, _&&_}
+use mathlib.Core.Bool.{Bool, true, false, _&&_}
 use Prim.Native.Nat.{ℕ, zero, suc, _+_, _-_, _*_, _/_, _%_, _^_, _≤_, _<_}
-use native.Mathlib.Nat.{zero-mul, mul-one, one-mul, mul-assoc, mul-right-comm, mul-div-cancel, mul-pos, add-comm, add-sub-of-le, zero-lt-suc}
+use native.Mathlib.Nat.{mul-one, mul-assoc, mul-right-comm, mul-div-cancel, mul-pos, add-comm, add-sub-of-le, zero-lt-suc}
 use native.Mathlib.Omega.{arith}
 use lib.IntN.{ℤ, pos, negsuc}
 use lib.Dec.{T, ltb, leb, eqb, ltb→lt, leb→le, lt→ltb}
-use lib.Pow.{pow-add, pow-pos}
+use lib.Pow.{pow-add}
 use lib.Ieee.{Float, nan, inf, fin, binary64, ofBits, up, down, fits, round, neg, add, sum}
 use lib.Ieee.Exact.{HasValue, round-exact}
 use lib.Ieee.Fits.{down-pos, up-pos, round-fits, and-l, and-r}

@@ -1,5 +1,5 @@
 -- A candidate that misses an arc: the arc has no meeting point there with another. Assumes nothing.
-use mathlib.Core.Path.{_≡_, refl, sym, ap, _∙_}
+use mathlib.Core.Path.{_≡_, refl, sym}
 use mathlib.Core.Bool.{Bool, true, false, _||_, false≢true}
 use Rattle.numbers.specs.Choice.{if_then_else_}
 use Rattle.vec3.specs.declared.Vec3.{Vec3}
@@ -10,19 +10,18 @@ use Rattle.base.specs.declared.Side.the-variants.{Left, Right, Collinear}
 use Rattle.base.specs.Sides.{sideOf, settlesRight, settlesLeft}
 use Rattle.base.proofs.Settling.{settled-right, settled-left}
 use Rattle.minor_arc.specs.declared.MinorArc.{MinorArc}
-use Rattle.minor_arc.specs.declared.Location.{Location}
 use Rattle.minor_arc.specs.declared.Location.the-variants.{Exterior}
 use Rattle.minor_arc.specs.declared.Meeting.{Meeting}
 use Rattle.minor_arc.specs.declared.Meeting.the-variants as M
-use Rattle.minor_arc.specs.Arcs.{placed, locationOf, nearer, missed, meetAt, meetingIn, meetingOf, meetingPoint}
+use Rattle.minor_arc.specs.Arcs.{located, locationOf, nearer, missed, meetingIn, meetingOf, meetingPoint}
 
-past-end : (s : Side) → placed s Left ≡ Exterior
+past-end : (s : Side) → located s Left ≡ Exterior
 past-end Right = refl
 past-end Left = refl
 past-end Collinear = refl
 
 -- right of the start, or left of the end
-beyond : (s e : Side) (right left : Bool) → right || left ≡ true → (right ≡ true → s ≡ Right) → (left ≡ true → e ≡ Left) → placed s e ≡ Exterior
+beyond : (s e : Side) (right left : Bool) → right || left ≡ true → (right ≡ true → s ≡ Right) → (left ≡ true → e ≡ Left) → located s e ≡ Exterior
 beyond s e true left h f g = rw (f refl)
 beyond s e false true h f g = rw (g refl) (past-end s)
 beyond s e false false h f g = absurd (false≢true h)

@@ -42,17 +42,17 @@ arcSide a p =
     if near d zero then Collinear else if lt d zero then Right else Left
 
 -- by the sides of a point against (normal, start) and (normal, end)
-abbrev pub placed : Side → Side → Location
-placed Right e = Exterior
-placed Left Left = Exterior
-placed Left Right = Interior
-placed Left Collinear = Endpoint
-placed Collinear Left = Exterior
-placed Collinear Right = Endpoint
-placed Collinear Collinear = Endpoint
+abbrev pub located : Side → Side → Location
+located Right e = Exterior
+located Left Left = Exterior
+located Left Right = Interior
+located Left Collinear = Endpoint
+located Collinear Left = Exterior
+located Collinear Right = Endpoint
+located Collinear Collinear = Endpoint
 
 unfoldable pub locationOf : MinorArc → Vec3 → Location
-locationOf a v = placed (sideOf v (a .normal) (a .start)) (sideOf v (a .normal) (a .end))
+locationOf a v = located (sideOf v (a .normal) (a .start)) (sideOf v (a .normal) (a .end))
 
 abbrev pub within : Location → Bool
 within Endpoint = true

@@ -2,9 +2,7 @@
 // The functions of crate `arcs` judge what they are handed; those here do not, and are what loops call.
 ghost use mathlib.Core.Path.{_≡_};
 ghost use Rattle.vec3.specs.Vec.{stableUnit};
-ghost use Rattle.base.specs.Turns.{turnOf};
 ghost use Rattle.minor_arc.specs.Arcs as Arcs;
-use angle::Angle;
 use base::Side;
 use vec3::Point;
 use vec3::Vec3;
@@ -31,8 +29,8 @@ pub enum Meeting {
 }
 
 // By the sides of a point against (normal, start) and (normal, end).
-fn place(s: Side, e: Side) -> Location
-    ensures { λ r. ⌜ r ≡ Arcs.placed s e ⌝ }
+fn locate(s: Side, e: Side) -> Location
+    ensures { λ r. ⌜ r ≡ Arcs.located s e ⌝ }
 {
     match s {
         Side::Right => Location::Exterior,
@@ -121,13 +119,6 @@ impl MinorArc {
         if d < 0.0 { Side::Right } else { Side::Left }
     }
 
-    // The angle turned from this arc to the next, which starts where this one ends.
-    pub fn turn(self, o: MinorArc) -> Angle
-        ensures { λ r. ⌜ r ≡ turnOf (self .normal) (o .normal) (self .end) ⌝ }
-    {
-        base::turning_angle(self.normal, o.normal, self.end)
-    }
-
     // Where a point of this arc's great circle lies: the source's `triage_on_minor_arc`.
     pub fn location(self, v: Vec3) -> Location
         ensures { λ r. ⌜ r ≡ Arcs.locationOf self v ⌝ }
@@ -136,7 +127,7 @@ impl MinorArc {
         if let Side::Right = s {
             return Location::Exterior;
         }
-        place(s, base::side_of(v, self.normal, self.end))
+        locate(s, base::side_of(v, self.normal, self.end))
     }
 
     // Whether p is on this arc, its ends included.
@@ -167,10 +158,11 @@ impl MinorArc {
         let p = nearer(self.start, i);
         let s = p.dot_prod(self.normal.cross_prod(self.start));
         let e = p.dot_prod(self.normal.cross_prod(self.end));
-        base::is_right(s) | base::is_left(e)
+        base::settles_right(s) | base::settles_left(e)
     }
 
-    // `meeting` with the unit vector of the normals' product at hand, as a caller has it who works out many of them first.
+    // The source's `intersection_details`, with the unit vector of the normals' product at hand, as a caller has it who works out many of them first. The
+    // great circles meet in a point and its opposite; the one on the side of this arc's start is the only candidate.
     pub fn meeting_at(self, o: MinorArc, i: Vec3) -> Meeting
         requires { ⌜ i ≡ stableUnit (self .normal) (o .normal) ⌝ }
         ensures { λ r. ⌜ r ≡ Arcs.meetingOf self o ⌝ }
@@ -180,13 +172,6 @@ impl MinorArc {
         } else {
             self.meeting_in(o, nearer(self.start, i))
         }
-    }
-
-    // The source's `intersection_details`. The great circles meet in a point and its opposite; the one on the side of this arc's start is the only candidate.
-    pub fn meeting(self, o: MinorArc) -> Meeting
-        ensures { λ r. ⌜ r ≡ Arcs.meetingOf self o ⌝ }
-    {
-        self.meeting_at(o, self.normal.stable_cross_prod_unit(o.normal))
     }
 
     // `intersection` with that vector at hand.

@@ -1,10 +1,10 @@
 -- Zero rounds to zero, and so a finite float less itself is zero. Assumes nothing.
 use mathlib.Core.Path.{_≡_, refl, sym, ap, _∙_, subst}
-use mathlib.Core.Bool.{Bool, true, false, not, cond, _&&_}
+use mathlib.Core.Bool.{Bool, true, false, not, cond}
 use Prim.Native.Nat.{ℕ, zero, suc, _-_, _*_, _/_, _%_, _^_, _<_, compare, Ordering, Ordering·lt, compare·zero-suc}
-use native.Mathlib.Nat.{zero-mul, zero-div, zero-mod, mul-pos, lt-irrefl, sub-self}
+use native.Mathlib.Nat.{zero-mul, zero-div, zero-mod, mul-pos, lt-irrefl}
 use native.Mathlib.Omega.{arith}
-use lib.IntN.{ℤ, pos}
+use lib.IntN.{pos}
 use lib.Dec.{T, ltb, ltb→lt, lt→ltb}
 use lib.Pow.{pow-pos}
 use lib.Ieee.{Float, nan, inf, fin, binary64, ofBits, up, down, size, nearest, odd, units, round, neg, add, sub, sum, eq}

@@ -1,6 +1,5 @@
 -- Rust's operators on `f64`, each rounded once, and the constants that the rules name. Definitions only.
-use mathlib.Core.Bool.{Bool}
-use lib.Ieee.{Float, binary64, ofBits, add, sub, mul, div, lt, le}
+use lib.Ieee.{Float, binary64, ofBits, add, sub, mul, div}
 
 infixl 65 _⊕_
 infixl 65 _⊖_

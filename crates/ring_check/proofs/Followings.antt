@@ -1,4 +1,4 @@
--- A ring being cut along a list: what holds after t triples, where m places are left. Assumes nothing.
+-- A ring being cut along a list: what holds after t triples, where m corners are left. Assumes nothing.
 use Prim.Native.Nat.{ℕ, suc, _+_, _-_, _*_, _≤_, _<_}
 use mathlib.Core.Path.{_≡_, refl, sym, ap, _∙_}
 use mathlib.Core.Bool.{Bool, true, false, not, _&&_, true≢false}
@@ -12,7 +12,7 @@ use Rattle.laws.proofs.Loops.{firstAt-le}
 use Rattle.ring_ears.specs.Ears.{Lent, Remaining, cutAt, cutIn}
 use Rattle.ring_cut.specs.Cut.{wholeRing}
 use Rattle.ring_cut.proofs.Lefts.{left, Held, hold, cut-left, cut-held}
-use Rattle.ring_check.specs.Accepted.{isNumber, placeOf, fitsAt, sameNumbers, accepts, acceptsFrom}
+use Rattle.ring_check.specs.Accepted.{isNumber, indexOf, fitsAt, sameNumbers, accepts, acceptsFrom}
 use Rattle.ring_check.proofs.Lists.{triple}
 
 pub both : (p q : Bool) → p && q ≡ true → (p ≡ true) × (q ≡ true)
@@ -21,7 +21,7 @@ both true false e = absurd (true≢false (sym e))
 both false q e = absurd (true≢false (sym e))
 
 -- one turn
-module _ (ps : List Float) (k : ℕ) (s : Remaining) (a b c : ℕ) (rest : List ℕ) {i : ℕ} (e : i ≡ placeOf (s .ids) b) where
+module _ (ps : List Float) (k : ℕ) (s : Remaining) (a b c : ℕ) (rest : List ℕ) {i : ℕ} (e : i ≡ indexOf (s .ids) b) where
   pub accepts-on : fitsAt ps s i a c ≡ true → accepts ps (suc k) s (a ∷ b ∷ c ∷ rest) ≡ accepts ps k (cutAt ps s i) rest
   unfolding accepts
   accepts-on f = rw (← e, f)
@@ -34,9 +34,9 @@ pub accepts-end : (ps : List Float) (s : Remaining) (l : List ℕ) → accepts p
 unfolding accepts
 accepts-end ps s l = refl
 
-pub fits-place : (ps : List Float) (s : Remaining) (i a c : ℕ) → fitsAt ps s i a c ≡ true → i < length (s .ids)
+pub fits-index : (ps : List Float) (s : Remaining) (i a c : ℕ) → fitsAt ps s i a c ≡ true → i < length (s .ids)
 unfolding fitsAt
-fits-place ps s i a c e = ltb-true i (length (s .ids)) (both _ _ (both _ _ e .0) .0)
+fits-index ps s i a c e = ltb-true i (length (s .ids)) (both _ _ (both _ _ e .0) .0)
 
 pub record Following (ps : List Float) (ids₀ classes₀ tris ids classes : List ℕ) (m t : ℕ) : Type 0 where
   pub held : Held ps ids₀ classes₀ ids classes m
@@ -49,12 +49,12 @@ pub begin : {ps : List Float} {ids classes tris : List ℕ} → Lent ps ids clas
 begin l h e = record { held = hold l h; count = omega arith; size = e; rest = rw take-length }
 
 module _ {ps : List Float} {ids₀ classes₀ tris ids classes : List ℕ} {m t : ℕ} (g : Following ps ids₀ classes₀ tris ids classes m t) where
-  -- the place that is found
-  pub at-most : {i : ℕ} → i ≡ placeOf (take m ids) (getD tris (3 * t + 1) 0) → i ≤ length (take m ids)
+  -- the index that is found
+  pub at-most : {i : ℕ} → i ≡ indexOf (take m ids) (getD tris (3 * t + 1) 0) → i ≤ length (take m ids)
   at-most e = rw e (omega (arith, firstAt-le (isNumber (take m ids) (getD tris (3 * t + 1) 0)) (length (take m ids)) 0))
 
   -- a turn
-  module _ {i : ℕ} (more : 3 < m) (e : i ≡ placeOf (take m ids) (getD tris (3 * t + 1) 0)) {b : Bool}
+  module _ {i : ℕ} (more : 3 < m) (e : i ≡ indexOf (take m ids) (getD tris (3 * t + 1) 0)) {b : Bool}
       (f : b ≡ fitsAt ps (left ids classes m) i (getD tris (3 * t) 0) (getD tris (3 * t + 2) 0)) where
     room : 3 * t + 2 < length tris
     room = omega (arith, g .size, g .count)
@@ -70,14 +70,14 @@ module _ {ps : List Float} {ids₀ classes₀ tris ids classes : List ℕ} {m t 
     fits : not b ≡ false → fitsAt ps (left ids classes m) i (getD tris (3 * t) 0) (getD tris (3 * t + 2) 0) ≡ true
     fits n = sym f ∙ not-false b n
 
-    pub place : not b ≡ false → i < length (take m ids)
-    place n = fits-place ps (left ids classes m) i _ _ (fits n)
+    pub index : not b ≡ false → i < length (take m ids)
+    index n = fits-index ps (left ids classes m) i _ _ (fits n)
 
     module _ (n : not b ≡ false) {ids′ classes′ part : List ℕ} (q : ids′ ≡ part ++ drop m ids) (p : record { ids = part; classes = classes′ } ≡ cutIn ps (left ids classes m) i)
         (kept : length part ≡ length (take m ids)) (also : length classes′ ≡ length classes) where
       pub cut : Following ps ids₀ classes₀ tris ids′ classes′ (m - 1) (t + 1)
       cut =
-          let h : i < m = rw (g .held .sized) at (place n) in
+          let h : i < m = rw (g .held .sized) at (index n) in
           record {
             held = cut-held (g .held) h more q p kept also;
             count = omega (arith, g .count);

@@ -36,12 +36,12 @@ module _ (ps : List Float) where
         none = λ i h. none-before (ear ps (s .ids) (s .classes)) (length (s .ids)) 0 i (omega arith) (omega arith);
       }
 
-  -- the place that `Lowest` names is the one that cutting takes
+  -- the index that `Lowest` names is the one that cutting takes
   taken : (s : Remaining) (i : ℕ) → i < length (s .ids) → Lowest ps s i → i ≡ lowestOf ps s
   taken s i h l = sym (is-first (ear ps (s .ids) (s .classes)) (length (s .ids)) 0 i (omega arith) (omega arith) (l .eligible) (λ j a b. l .none-below j b))
 
-  no-place : (s : Remaining) → ((i : ℕ) → i < length (s .ids) → ear ps (s .ids) (s .classes) i ≡ false) → length (s .ids) ≤ lowestOf ps s
-  no-place s f = go (decLt (lowestOf ps s) (length (s .ids)))
+  no-index : (s : Remaining) → ((i : ℕ) → i < length (s .ids) → ear ps (s .ids) (s .classes) i ≡ false) → length (s .ids) ≤ lowestOf ps s
+  no-index s f = go (decLt (lowestOf ps s) (length (s .ids)))
     where
       go : Dec (lowestOf ps s < length (s .ids)) → length (s .ids) ≤ lowestOf ps s
       go (yes p) = absurd (true≢false (sym (first-has (ear ps (s .ids) (s .classes)) (length (s .ids)) 0 (omega arith)) ∙ f (lowestOf ps s) p))
@@ -50,7 +50,7 @@ module _ (ps : List Float) where
   pub sticks : {s u : Remaining} → Reaches ps s u → 3 < length (u .ids) → ((i : ℕ) → i < length (u .ids) → ear ps (u .ids) (u .classes) i ≡ false)
       → (k : ℕ) → length (s .ids) ≡ k + 3 → cutting ps k s .stuck ≡ true
   sticks here h f zero n = absurd (omega arith)
-  sticks {s} here h f (suc k) n = ap (λ (c : Cutting). c .stuck) (cutting-stuck ps k s refl (no-place s f))
+  sticks {s} here h f (suc k) n = ap (λ (c : Cutting). c .stuck) (cutting-stuck ps k s refl (no-index s f))
   sticks (cut i a b l r) h f zero n = absurd (omega arith)
   sticks {s} (cut i a b l r) h f (suc k) n =
       let m = length-cut ps s i b in

@@ -10,7 +10,7 @@ use lib.Dec.{eqb}
 use borrow.Author.Tests.{eq-eqb}
 use Rattle.ring_theory.specs.Ring.{numbers}
 use Rattle.ring_theory.proofs.Theorem.{counted, demand-3}
-use Rattle.ring_theory.proofs.Places.{Increasing}
+use Rattle.ring_theory.proofs.Indexes.{Increasing}
 use Rattle.ring_cut.specs.Cut.{wholeRing, cuttingOf}
 use Rattle.ring_cut.specs.Accepted.{CutBy, Eligible, Lowest}
 use Rattle.ring_cut.proofs.Relations.{cuts, weaken, at-lowest}

@@ -12,22 +12,22 @@ use Rattle.ring_theory.specs.Ring.{prev, next}
 use Rattle.ring_ears.specs.Ears.{ear, Remaining, cutAt}
 use Rattle.ring_cut.specs.Cut.{wholeRing}
 
--- the place of the number b, or the number of places if it is not on the ring left
+-- the index of the number b, or the length of the list if it is not on the ring left
 abbrev pub isNumber : List ℕ → ℕ → ℕ → Bool
 isNumber ids b i = eqb (getD ids i 0) b
 
-abbrev pub placeOf : List ℕ → ℕ → ℕ
-placeOf ids b = firstAt (isNumber ids b) (length ids) 0
+abbrev pub indexOf : List ℕ → ℕ → ℕ
+indexOf ids b = firstAt (isNumber ids b) (length ids) 0
 
--- a stands before place i, and c after it
+-- a stands before index i, and c after it
 abbrev pub between : List ℕ → ℕ → ℕ → ℕ → Bool
 between ids i a c = eqb (getD ids (prev ids i) 0) a && eqb (getD ids (next ids i) 0) c
 
--- place i is one of the ring left, between a and c, and an eligible ear
+-- index i is one of the ring left, between a and c, and an eligible ear
 unfoldable pub fitsAt : List Float → Remaining → ℕ → ℕ → ℕ → Bool
 fitsAt ps s i a c = (ltb i (length (s .ids)) && between (s .ids) i a c) && ear ps (s .ids) (s .classes) i
 
--- on from place i, where the triple fits
+-- on from index i, where the triple fits
 abbrev pub onward : Bool → ℕ → (ℕ → Bool) → Bool
 onward true i on = on i
 onward false i on = false
@@ -44,7 +44,7 @@ accepts ps zero s tris = sameNumbers (s .ids) tris
 accepts ps (suc k) s [] = false
 accepts ps (suc k) s (a ∷ []) = false
 accepts ps (suc k) s (a ∷ b ∷ []) = false
-accepts ps (suc k) s (a ∷ b ∷ c ∷ rest) = onward (fitsAt ps s (placeOf (s .ids) b) a c) (placeOf (s .ids) b) (λ i. accepts ps k (cutAt ps s i) rest)
+accepts ps (suc k) s (a ∷ b ∷ c ∷ rest) = onward (fitsAt ps s (indexOf (s .ids) b) a c) (indexOf (s .ids) b) (λ i. accepts ps k (cutAt ps s i) rest)
 
 -- of what is left of a ring: three are left after m - 3 cuts
 abbrev pub acceptsFrom : List Float → Remaining → List ℕ → Bool

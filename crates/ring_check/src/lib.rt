@@ -4,12 +4,12 @@ ghost use Prim.Native.Nat.{_+_, _-_, _*_, _≤_, _<_};
 ghost use lib.ListN.{length, getD, drop};
 ghost use Rattle.ring_ears.specs.Ears.{Lent};
 ghost use Rattle.ring_cut.specs.Cut.{Ring, Work, wholeRing};
-ghost use Rattle.ring_check.specs.Accepted.{placeOf, between, fitsAt, sameNumbers, acceptsFrom, accepted};
+ghost use Rattle.ring_check.specs.Accepted.{indexOf, between, fitsAt, sameNumbers, acceptsFrom, accepted};
 
-// The place of the number b; the number of places if it is not there.
-fn place_of(ids: &[u16], b: u16) -> usize
+// The index of the number b; the length of the list if it is not there.
+fn index_of(ids: &[u16], b: u16) -> usize
     requires { ⌜ length (now ids) ≤ 512 ⌝ }
-    ensures { λ r. ⌜ r ≡ placeOf (now (ids .entry)) b ⌝ }
+    ensures { λ r. ⌜ r ≡ indexOf (now (ids .entry)) b ⌝ }
 {
     for i in 0..ids.len() {
         if ids[i] == b {
@@ -19,7 +19,7 @@ fn place_of(ids: &[u16], b: u16) -> usize
     ids.len()
 }
 
-// Whether a stands before place i, and c after it.
+// Whether a stands before index i, and c after it.
 fn is_between(ids: &[u16], i: usize, a: u16, c: u16) -> bool
     requires { ⌜ (i < length (now ids)) × (length (now ids) ≤ 512) ⌝ }
     ensures { λ r. ⌜ r ≡ between (now (ids .entry)) i a c ⌝ }
@@ -29,7 +29,7 @@ fn is_between(ids: &[u16], i: usize, a: u16, c: u16) -> bool
     (ids[p] == a) & (ids[n] == c)
 }
 
-// Whether place i is one of the ring left, between a and c, and an eligible ear.
+// Whether index i is one of the ring left, between a and c, and an eligible ear.
 fn fits_at(ps: &[f64], ids: &[u16], classes: &[u8], i: usize, a: u16, c: u16) -> bool
     requires { ⌜ Lent (now ps) (now ids) (now classes) × (i ≤ length (now ids)) ⌝ }
     ensures { λ r. ⌜ r ≡ fitsAt (now (ps .entry)) (record { ids = now (ids .entry); classes = now (classes .entry) }) i a c ⌝ }
@@ -42,15 +42,15 @@ fn fits_at(ps: &[f64], ids: &[u16], classes: &[u8], i: usize, a: u16, c: u16) ->
     false
 }
 
-// The place of the middle number of the triple numbered t.
-fn place_at(ids: &[u16], triangles: &[u16], t: usize) -> usize
+// The index of the middle number of the triple numbered t.
+fn index_at(ids: &[u16], triangles: &[u16], t: usize) -> usize
     requires { ⌜ (length (now ids) ≤ 512) × (3 * t + 2 < length (now triangles)) ⌝ }
-    ensures { λ r. ⌜ r ≡ placeOf (now (ids .entry)) (getD (now (triangles .entry)) (3 * t + 1) 0) ⌝ }
+    ensures { λ r. ⌜ r ≡ indexOf (now (ids .entry)) (getD (now (triangles .entry)) (3 * t + 1) 0) ⌝ }
 {
-    place_of(ids, triangles[3 * t + 1])
+    index_of(ids, triangles[3 * t + 1])
 }
 
-// Whether the triple numbered t, whose middle number has place i, is that of an eligible ear.
+// Whether the triple numbered t, whose middle number has index i, is that of an eligible ear.
 fn is_named(ps: &[f64], ids: &[u16], classes: &[u8], i: usize, triangles: &[u16], t: usize) -> bool
     requires { ⌜ Lent (now ps) (now ids) (now classes) × (i ≤ length (now ids)) × (3 * t + 2 < length (now triangles)) ⌝ }
     ensures { λ r. ⌜ r ≡ fitsAt (now (ps .entry)) (record { ids = now (ids .entry); classes = now (classes .entry) }) i (getD (now (triangles .entry)) (3 * t) 0) (getD (now (triangles .entry)) (3 * t + 2) 0) ⌝ }
@@ -75,7 +75,7 @@ fn follow(ps: &[f64], ids: &mut [u16], classes: &mut [u8], triangles: &[u16]) ->
     let mut m = ids.len();
     let mut t = 0;
     while 3 < m {
-        let i = place_at(&ids[..m], triangles, t);
+        let i = index_at(&ids[..m], triangles, t);
         if !is_named(ps, &ids[..m], classes, i, triangles, t) {
             return false;
         }
@@ -86,12 +86,12 @@ fn follow(ps: &[f64], ids: &mut [u16], classes: &mut [u8], triangles: &[u16]) ->
     is_last(&ids[..m], triangles, t)
 }
 
-// `check_list` for a list of the right size, with its work places.
+// `check_list` for a list of the right size, with its work arrays.
 fn check_in(ps: &[f64], classes: &[u8], triangles: &[u16], ids: &mut [u16], work: &mut [u8]) -> bool
     requires { ⌜ Work (now ps) (now classes) (now ids) (now work) × (length (now triangles) ≡ 3 * (length (now classes) - 2)) ⌝ }
     ensures { λ r. ⌜ r ≡ acceptsFrom (now (ps .entry)) (wholeRing (now (classes .entry))) (now (triangles .entry)) ⌝ }
 {
-    ring_cut::start(classes, ids, work);
+    ring_cut::whole_ring(classes, ids, work);
     follow(ps, ids, work, triangles)
 }
 

@@ -23,7 +23,7 @@ pub fn opened(list: &[f64], m: usize) -> usize
     }
 }
 
-// The place in the list of the ring's corner k: the list is kept, or exactly reversed.
+// The index in the list of the ring's corner k: the list is kept, or exactly reversed.
 fn corner_source(n: usize, reversed: bool, k: usize) -> usize
     requires { ⌜ (k < n) × (n ≤ 512) ⌝ }
     ensures { λ r. ⌜ (r ≡ R.cornerSource n reversed k) × (r < n) ⌝ }
@@ -39,7 +39,7 @@ fn corner(list: &[f64], n: usize, reversed: bool, k: usize) -> Vec3
     vec3::at(list, corner_source(n, reversed, k))
 }
 
-// The place in the list of the edge that, walked the other way, goes from corner k of the reversed list on.
+// The index in the list of the edge that, walked the other way, goes from corner k of the reversed list on.
 fn opposite_source(n: usize, k: usize) -> usize
     requires { ⌜ (k < n) × (n ≤ 512) ⌝ }
     ensures { λ r. ⌜ (r ≡ (2 * n - 2 - k) % n) × (r < n) ⌝ }

@@ -1,4 +1,4 @@
--- A ring under the knife: what holds after t cuts, where m places are left. Assumes nothing.
+-- A ring under the knife: what holds after t cuts, where m corners are left. Assumes nothing.
 use Prim.Native.Nat.{ℕ, suc, _+_, _-_, _*_, _≤_, _<_}
 use mathlib.Core.Path.{_≡_, refl, ap, _∙_}
 use mathlib.Core.Bool.{true, false}

@@ -12,7 +12,7 @@ use Rattle.ring_theory.specs.Ring.{without}
 use Rattle.ring_theory.proofs.Withouts.{length-without}
 use Rattle.ring_ears.specs.Ears.{Lent, convex, ear, Remaining, cutAt, cutIn}
 use Rattle.ring_reflex.specs.Lowest.{lowest}
-use Rattle.ring_ears.proofs.Places.{relent, lent-without}
+use Rattle.ring_ears.proofs.Indexes.{relent, lent-without}
 use Rattle.ring_cut.proofs.Firsts.{first-has}
 
 abbrev pub left : List ℕ → List ℕ → ℕ → Remaining
@@ -38,7 +38,7 @@ unfolding ear
 is-convex ps ids classes i e = both-hold (convex ids classes i) _ e
 
 module _ {ps : List Float} {ids₀ classes₀ ids classes : List ℕ} {m : ℕ} (g : Held ps ids₀ classes₀ ids classes m) where
-  -- a place that is found is at most m, and below it where it is not m
+  -- an index that is found is at most m, and below it where it is not m
   pub found : {i : ℕ} → i ≡ lowest ps (take m ids) classes → (i ≡ m → ⊥) → i < m
   found e ne = let h = firstAt-le (ear ps (take m ids) classes) (length (take m ids)) 0 in omega (arith, e, h, g .sized, ne)
 
@@ -48,14 +48,14 @@ module _ {ps : List Float} {ids₀ classes₀ ids classes : List ℕ} {m : ℕ} 
       let h = found e ne in
       is-convex ps (take m ids) classes i (rw e (first-has (ear ps (take m ids) classes) (length (take m ids)) 0 (omega (arith, e, h, g .sized))))
 
-  -- what a cut at place i leaves
+  -- what a cut at index i leaves
   module _ {i : ℕ} (h : i < m) (more : 3 < m) {ids′ classes′ part : List ℕ} (q : ids′ ≡ part ++ drop m ids)
       (e : record { ids = part; classes = classes′ } ≡ cutIn ps (left ids classes m) i) (kept : length part ≡ length (take m ids)) (also : length classes′ ≡ length classes) where
-    place : i < length (take m ids)
-    place = rw (g .sized) h
+    index : i < length (take m ids)
+    index = rw (g .sized) h
 
     pub ids-left : take (m - 1) ids′ ≡ without i (take m ids)
-    ids-left = rw (q, ap (λ (s : Remaining). s .ids) e, append-assoc (without i (take m ids)) _ _) (take-at (without i (take m ids)) _ (m - 1) (rw (length-without i (take m ids) place, g .sized)))
+    ids-left = rw (q, ap (λ (s : Remaining). s .ids) e, append-assoc (without i (take m ids)) _ _) (take-at (without i (take m ids)) _ (m - 1) (rw (length-without i (take m ids) index, g .sized)))
 
     pub cut-left : left ids′ classes′ (m - 1) ≡ cutAt ps (left ids classes m) i
     unfolding cutAt
@@ -70,5 +70,5 @@ module _ {ps : List Float} {ids₀ classes₀ ids classes : List ℕ} {m : ℕ} 
           ids-size = k ∙ g .ids-size;
           classes-size = also ∙ g .classes-size;
           sized = length-take-le (m - 1) ids′ (omega (arith, g .within));
-          lent = rw ids-left (relent (lent-without (g .lent) place .0) also);
+          lent = rw ids-left (relent (lent-without (g .lent) index .0) also);
         }

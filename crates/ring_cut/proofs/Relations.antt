@@ -1,7 +1,7 @@
 -- What is cut, as a relation. Assumes nothing.
 use Prim.Native.Nat.{ℕ, zero, suc, _+_, _<_}
 use mathlib.Core.Path.{_≡_, refl, sym, ap, _∙_}
-use mathlib.Core.Bool.{true, false, true≢false}
+use mathlib.Core.Bool.{false, true≢false}
 use mathlib.Core.List.{List}
 use native.Mathlib.Decide.{decLt}
 use native.Mathlib.Omega.{arith}
@@ -16,7 +16,7 @@ use Rattle.ring_cut.proofs.Firsts.{first-has, none-before}
 use Rattle.ring_cut.proofs.Turns.{cutting-on, cutting-stuck, cutting-end}
 
 module _ {ps : List Float} {May : Remaining → ℕ → Type 0} where
-  -- whatever may be cut, the ring numbers are cut place by place
+  -- whatever may be cut, the ring numbers are cut corner by corner
   pub cuts : {s : Remaining} {tris : List ℕ} → CutBy ps May s tris → C.Cuts (s .ids) tris
   unfolding cutAt
   cuts (last e) = C.last e

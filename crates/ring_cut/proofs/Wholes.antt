@@ -12,7 +12,7 @@ use Rattle.laws.proofs.Copies.{length-flat}
 use Rattle.ring_theory.specs.Ring.{Below, oneNumber, numbers}
 use Rattle.ring_theory.proofs.Theorem.{counted}
 use Rattle.ring_ears.specs.Ears.{Lent, Remaining}
-use Rattle.ring_cut.specs.Cut.{Ring, Work, wholeRing, cuttingFrom, cuttingOf, Out, laid, outOf}
+use Rattle.ring_cut.specs.Cut.{Ring, Work, wholeRing, cuttingFrom, cuttingOf, Outcome, laid, cutRingOutcome}
 use Rattle.ring_cut.proofs.Relations.{cuts, at-lowest}
 
 pub getD-numbers : (k i j : ℕ) → j < k → getD (flat oneNumber k i) j 0 ≡ i + j
@@ -37,7 +37,7 @@ all-cut {ps} {classes} r h =
     let n = size (length classes) in
     counted (cuts (at-lowest ps (length (numbers (length classes)) - 3) (wholeRing classes) (omega (arith, r .least)) h)) ∙ rw n
 
--- in work places
+-- in work arrays
 pub started : {classes : List ℕ} (ids work : List ℕ) {ids′ work′ : List ℕ} → length ids ≡ length classes → length work ≡ length classes
     → ids′ ≡ numbers (length ids) → work′ ≡ classes ++ drop (length classes) work → record { ids = ids′; classes = work′ } ≡ wholeRing classes
 started {classes} ids work e w p q =
@@ -52,16 +52,16 @@ module _ {ps : List Float} {classes ids work : List ℕ} (w : Work ps classes id
     done : record { answer = b; out = tris′ } ≡ laid (cuttingOf ps classes) tris
     done = q ∙ ap (λ (s : Remaining). laid (cuttingFrom ps s) tris) e
 
-    pub none-found : b ≡ false → record { answer = false; out = out } ≡ outOf ps classes out
-    unfolding outOf
-    none-found f = rw (not-false (cuttingOf ps classes .stuck) (sym (ap (λ (o : Out). o .answer) done) ∙ f))
+    pub none-found : b ≡ false → record { answer = false; out = out } ≡ cutRingOutcome ps classes out
+    unfolding cutRingOutcome
+    none-found f = rw (not-false (cuttingOf ps classes .stuck) (sym (ap (λ (o : Outcome). o .answer) done) ∙ f))
 
     pub all-found : {out′ : List ℕ} → b ≡ true → length tris ≡ 3 * (length classes - 2) → out′ ≡ tris′ ++ drop (length tris′) out
-        → record { answer = true; out = out′ } ≡ outOf ps classes out
-    unfolding outOf
+        → record { answer = true; out = out′ } ≡ cutRingOutcome ps classes out
+    unfolding cutRingOutcome
     all-found {out′} t s o =
-        let free : cuttingOf ps classes .stuck ≡ false = not-true (cuttingOf ps classes .stuck) (sym (ap (λ (o : Out). o .answer) done) ∙ t) in
+        let free : cuttingOf ps classes .stuck ≡ false = not-true (cuttingOf ps classes .stuck) (sym (ap (λ (o : Outcome). o .answer) done) ∙ t) in
         let n = all-cut (w .ring) free in
         let h : length tris ≤ length (cuttingOf ps classes .triangles) = omega arith in
-        let are : tris′ ≡ cuttingOf ps classes .triangles = ap (λ (o : Out). o .out) done ∙ rw (drop-of-length-le tris h, append-nil) in
+        let are : tris′ ≡ cuttingOf ps classes .triangles = ap (λ (o : Outcome). o .out) done ∙ rw (drop-of-length-le tris h, append-nil) in
         rw (free, o, are)

@@ -17,7 +17,7 @@ pub record Ring (ps : List Float) (classes : List ℕ) : Type 0 where
   pub least : 3 ≤ length classes
   pub most : length classes ≤ 512
 
--- with work places, as many of either as the ring has corners
+-- with work arrays, as many of either as the ring has corners
 pub record Work (ps : List Float) (classes ids work : List ℕ) : Type 0 where
   pub ring : Ring ps classes
   pub ids-size : length ids ≡ length classes
@@ -35,7 +35,7 @@ pub record Cutting : Type 0 where
 abbrev pub ahead : List ℕ → Cutting → Cutting
 ahead t c = record { triangles = t ++ c .triangles; stuck = c .stuck }
 
--- on from the place i, where that is one of the ring's
+-- on from the index i, where that is one of the ring's
 abbrev pub atEar : Bool → ℕ → (ℕ → Cutting) → Cutting
 atEar true i on = on i
 atEar false i on = record { triangles = []; stuck = true }
@@ -56,18 +56,18 @@ abbrev pub cuttingOf : List Float → List ℕ → Cutting
 cuttingOf ps classes = cuttingFrom ps (wholeRing classes)
 
 -- a function's answer, whether all is cut, with what its output holds at exit
-pub record Out : Type 0 where
+pub record Outcome : Type 0 where
   pub answer : Bool
   pub out : List ℕ
 
 -- the triples ahead of what lies past them, those before no ear was found too
-abbrev pub laid : Cutting → List ℕ → Out
+abbrev pub laid : Cutting → List ℕ → Outcome
 laid c out = record { answer = not (c .stuck); out = c .triangles ++ drop (length (c .triangles)) out }
 
 -- the same, but that nothing is written where a ring has no ear
-abbrev pub outIf : Bool → List ℕ → List ℕ → Out
-outIf true t out = record { answer = false; out = out }
-outIf false t out = record { answer = true; out = t ++ drop (length t) out }
+abbrev pub outcomeIf : Bool → List ℕ → List ℕ → Outcome
+outcomeIf true t out = record { answer = false; out = out }
+outcomeIf false t out = record { answer = true; out = t ++ drop (length t) out }
 
-unfoldable pub outOf : List Float → List ℕ → List ℕ → Out
-outOf ps classes out = outIf (cuttingOf ps classes .stuck) (cuttingOf ps classes .triangles) out
+unfoldable pub cutRingOutcome : List Float → List ℕ → List ℕ → Outcome
+cutRingOutcome ps classes out = outcomeIf (cuttingOf ps classes .stuck) (cuttingOf ps classes .triangles) out

@@ -6,14 +6,7 @@ ghost use lib.ListN.{length};
 ghost use lib.Seq.{sets};
 ghost use Rattle.ring_theory.specs.Ring.{numbers, earOf};
 ghost use Rattle.ring_ears.specs.Ears.{Lent};
-ghost use Rattle.ring_cut.specs.Cut.{Ring, Work, wholeRing, cuttingFrom, laid, outOf};
-use vec3::Vec3;
-
-// Two positions inside a ring, or none.
-pub enum Insides {
-    Absent,
-    Two(Vec3, Vec3),
-}
+ghost use Rattle.ring_cut.specs.Cut.{Ring, Work, wholeRing, cuttingFrom, laid, cutRingOutcome};
 
 // 0, 1, 2 and so on.
 fn number(ids: &mut [u16])
@@ -25,7 +18,7 @@ fn number(ids: &mut [u16])
     }
 }
 
-// Writes the triangle at place i as the one numbered t: previous, this, next.
+// Writes the triangle at index i as the one numbered t: previous, this, next.
 fn put_ear(ids: &[u16], i: usize, triangles: &mut [u16], t: usize)
     requires { ⌜ (i < length (now ids)) × (length (now ids) ≤ 512) × (3 * t + 2 < length (now triangles)) ⌝ }
     ensures { λ _. ⌜ now (triangles .exit) ≡ sets (now (triangles .entry)) (3 * t) (earOf (now (ids .entry)) i) ⌝ }
@@ -66,8 +59,8 @@ fn cut_all(
     true
 }
 
-// The ring before any cut, in work places: its numbers, and a copy of its classes.
-pub fn start(classes: &[u8], ids: &mut [u16], work: &mut [u8])
+// The ring before any cut, in work arrays: its numbers, and a copy of its classes.
+pub fn whole_ring(classes: &[u8], ids: &mut [u16], work: &mut [u8])
     requires { ⌜ (length (now ids) ≡ length (now classes)) × (length (now work) ≡ length (now classes)) × (length (now classes) ≤ 512) ⌝ }
     ensures { λ _. ⌜ record { ids = now (ids .exit); classes = now (work .exit) } ≡ wholeRing (now (classes .entry)) ⌝ }
 {
@@ -75,7 +68,7 @@ pub fn start(classes: &[u8], ids: &mut [u16], work: &mut [u8])
     copies::copy_classes(classes, work);
 }
 
-// `cut_ring` with its work places, and room for the triangles until all are cut.
+// `cut_ring` with its work arrays, and room for the triangles until all are cut.
 fn cut_ring_in(
     ps: &[f64],
     classes: &[u8],
@@ -86,9 +79,9 @@ fn cut_ring_in(
     out: &mut [u16],
 ) -> bool
     requires { ⌜ Work (now ps) (now classes) (now ids) (now work) × (length (now apart) ≡ length (now classes)) × (length (now triangles) ≡ 3 * (length (now classes) - 2)) × (3 * (length (now classes) - 2) ≤ length (now out)) ⌝ }
-    ensures { λ r. ⌜ record { answer = r; out = now (out .exit) } ≡ outOf (now (ps .entry)) (now (classes .entry)) (now (out .entry)) ⌝ }
+    ensures { λ r. ⌜ record { answer = r; out = now (out .exit) } ≡ cutRingOutcome (now (ps .entry)) (now (classes .entry)) (now (out .entry)) ⌝ }
 {
-    start(classes, ids, work);
+    whole_ring(classes, ids, work);
     if cut_all(ps, ids, work, apart, triangles) {
         copies::copy_numbers(triangles, out);
         return true;
@@ -99,7 +92,7 @@ fn cut_ring_in(
 // `cut_ring` with work arrays for every ring.
 fn cut_large(positions: &[f64], classes: &[u8], out: &mut [u16]) -> bool
     requires { ⌜ Ring (now positions) (now classes) × (3 * (length (now classes) - 2) ≤ length (now out)) ⌝ }
-    ensures { λ r. ⌜ record { answer = r; out = now (out .exit) } ≡ outOf (now (positions .entry)) (now (classes .entry)) (now (out .entry)) ⌝ }
+    ensures { λ r. ⌜ record { answer = r; out = now (out .exit) } ≡ cutRingOutcome (now (positions .entry)) (now (classes .entry)) (now (out .entry)) ⌝ }
 {
     let n = classes.len();
     let size = 3 * (n - 2);
@@ -121,7 +114,7 @@ fn cut_large(positions: &[f64], classes: &[u8], out: &mut [u16]) -> bool
 // `cut_ring` with small work arrays, as clearing large ones would cost a small ring more than its cuts.
 fn cut_small(positions: &[f64], classes: &[u8], out: &mut [u16]) -> bool
     requires { ⌜ Ring (now positions) (now classes) × (3 * (length (now classes) - 2) ≤ length (now out)) × (length (now classes) ≤ 16) ⌝ }
-    ensures { λ r. ⌜ record { answer = r; out = now (out .exit) } ≡ outOf (now (positions .entry)) (now (classes .entry)) (now (out .entry)) ⌝ }
+    ensures { λ r. ⌜ record { answer = r; out = now (out .exit) } ≡ cutRingOutcome (now (positions .entry)) (now (classes .entry)) (now (out .entry)) ⌝ }
 {
     let n = classes.len();
     let size = 3 * (n - 2);
@@ -144,7 +137,7 @@ fn cut_small(positions: &[f64], classes: &[u8], out: &mut [u16]) -> bool
 // ear, and `out` is untouched.
 pub fn cut_ring(positions: &[f64], classes: &[u8], out: &mut [u16]) -> bool
     requires { ⌜ Ring (now positions) (now classes) × (3 * (length (now classes) - 2) ≤ length (now out)) ⌝ }
-    ensures { λ r. ⌜ record { answer = r; out = now (out .exit) } ≡ outOf (now (positions .entry)) (now (classes .entry)) (now (out .entry)) ⌝ }
+    ensures { λ r. ⌜ record { answer = r; out = now (out .exit) } ≡ cutRingOutcome (now (positions .entry)) (now (classes .entry)) (now (out .entry)) ⌝ }
 {
     if classes.len() <= 16 {
         return cut_small(positions, classes, out);

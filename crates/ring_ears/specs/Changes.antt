@@ -6,18 +6,18 @@ use lib.ListN.{length}
 use lib.Dec.{eqb, ltb}
 use lib.Ieee.{Float}
 use Rattle.ring_theory.specs.Ring.{prev}
-use Rattle.ring_ears.specs.Ears.{convex, triangleAt, classOf, turnOf, reclass}
+use Rattle.ring_ears.specs.Ears.{convex, triangleAt, classOf, turnOf, reclassify}
 
 -- one of two holds, and the other does not
-abbrev pub unlike : Bool → Bool → Bool
-unlike true b = not b
-unlike false b = b
+abbrev pub differ : Bool → Bool → Bool
+differ true b = not b
+differ false b = b
 
--- classing the corner at place i afresh changes whether it is convex
-unfoldable pub turned : List Float → List ℕ → ℕ → List ℕ → Bool
-turned ps ids i classes = unlike (convex ids classes i) (eqb (classOf (turnOf (triangleAt ps ids i))) 0)
+-- classing the corner at index i afresh changes whether it is convex
+unfoldable pub changed : List Float → List ℕ → ℕ → List ℕ → Bool
+changed ps ids i classes = differ (convex ids classes i) (eqb (classOf (turnOf (triangleAt ps ids i))) 0)
 
--- so does classing the two neighbours of a cut at place i that left `ids`
-unfoldable pub returned : List Float → List ℕ → ℕ → List ℕ → Bool
-returned ps ids i classes =
-    cond (ltb 3 (length ids)) (turned ps ids (i % length ids) classes || turned ps ids (prev ids i) (reclass ps ids (i % length ids) classes)) false
+-- so does classing the two neighbours of a cut at index i that left `ids`
+unfoldable pub oneChanged : List Float → List ℕ → ℕ → List ℕ → Bool
+oneChanged ps ids i classes =
+    cond (ltb 3 (length ids)) (changed ps ids (i % length ids) classes || changed ps ids (prev ids i) (reclassify ps ids (i % length ids) classes)) false

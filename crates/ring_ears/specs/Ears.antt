@@ -26,17 +26,17 @@ pub record Lent (ps : List Float) (ids classes : List ℕ) : Type 0 where
   pub few : length ids ≤ 512
 
 -- each number has its position
-abbrev pub Placed : List Float → List ℕ → Type 0
-Placed ps ids = (j : ℕ) → j < length ids → 3 * getD ids j 0 + 2 < length ps
+abbrev pub Indexed : List Float → List ℕ → Type 0
+Indexed ps ids = (j : ℕ) → j < length ids → 3 * getD ids j 0 + 2 < length ps
 
--- the corner at place i, and whether it is convex
+-- the corner at index i, and whether it is convex
 abbrev pub corner : List Float → List ℕ → ℕ → Vec3
 corner ps ids i = posAt ps (getD ids i 0)
 
 abbrev pub convex : List ℕ → List ℕ → ℕ → Bool
 convex ids classes i = eqb (getD classes (getD ids i 0) 0) 0
 
--- the triangle at place i: previous, this, next
+-- the triangle at index i: previous, this, next
 abbrev pub triangleAt : List Float → List ℕ → ℕ → Triangle
 triangleAt ps ids i = record { previous = corner ps ids (prev ids i); this = corner ps ids i; next = corner ps ids (next ids i) }
 
@@ -45,7 +45,7 @@ abbrev pub blocksIf : Bool → Vec3 → Triangle → Bool
 blocksIf true p t = false
 blocksIf false p t = insideOrEdge p (t .previous) (t .this) (t .next)
 
--- the corner at place j is of another class, and inside or on an edge of the triangle
+-- the corner at index j is of another class, and inside or on an edge of the triangle
 unfoldable pub blocks : List Float → List ℕ → List ℕ → Triangle → ℕ → Bool
 blocks ps ids classes t j = blocksIf (convex ids classes j) (corner ps ids j) t
 
@@ -53,7 +53,7 @@ blocks ps ids classes t j = blocksIf (convex ids classes j) (corner ps ids j) t
 abbrev pub blocked : List Float → List ℕ → List ℕ → Triangle → Bool
 blocked ps ids classes t = anyOf (blocks ps ids classes t) (length ids) 0
 
--- place i is an eligible ear
+-- index i is an eligible ear
 unfoldable pub ear : List Float → List ℕ → List ℕ → ℕ → Bool
 ear ps ids classes i = convex ids classes i && not (blocked ps ids classes (triangleAt ps ids i))
 
@@ -66,23 +66,23 @@ classOf Collinear = 2
 abbrev pub turnOf : Triangle → Side
 turnOf t = sideOf (t .previous) (t .this) (t .next)
 
--- the classes with that of place i found afresh
-unfoldable pub reclass : List Float → List ℕ → ℕ → List ℕ → List ℕ
-reclass ps ids i classes = set classes (getD ids i 0) (classOf (turnOf (triangleAt ps ids i)))
+-- the classes with that of index i found afresh
+unfoldable pub reclassify : List Float → List ℕ → ℕ → List ℕ → List ℕ
+reclassify ps ids i classes = set classes (getD ids i 0) (classOf (turnOf (triangleAt ps ids i)))
 
--- the classes after a cut at place i that left `ids`: those of the two neighbours afresh, if more than three are left
-unfoldable pub recut : List Float → List ℕ → ℕ → List ℕ → List ℕ
-recut ps ids i classes = cond (ltb 3 (length ids)) (reclass ps ids (prev ids i) (reclass ps ids (i % length ids) classes)) classes
+-- the classes after a cut at index i that left `ids`: those of the two neighbours afresh, if more than three are left
+unfoldable pub reclassifyBoth : List Float → List ℕ → ℕ → List ℕ → List ℕ
+reclassifyBoth ps ids i classes = cond (ltb 3 (length ids)) (reclassify ps ids (prev ids i) (reclassify ps ids (i % length ids) classes)) classes
 
 -- what is left of a ring
 pub record Remaining : Type 0 where
   pub ids : List ℕ
   pub classes : List ℕ
 
--- after a cut at place i
+-- after a cut at index i
 unfoldable pub cutAt : List Float → Remaining → ℕ → Remaining
-cutAt ps s i = record { ids = without i (s .ids); classes = recut ps (without i (s .ids)) i (s .classes) }
+cutAt ps s i = record { ids = without i (s .ids); classes = reclassifyBoth ps (without i (s .ids)) i (s .classes) }
 
--- in a lent list, whose last place keeps its number
+-- in a lent list, whose last index keeps its number
 abbrev pub cutIn : List Float → Remaining → ℕ → Remaining
-cutIn ps s i = record { ids = without i (s .ids) ++ drop (length (s .ids) - 1) (s .ids); classes = recut ps (without i (s .ids)) i (s .classes) }
+cutIn ps s i = record { ids = without i (s .ids) ++ drop (length (s .ids) - 1) (s .ids); classes = reclassifyBoth ps (without i (s .ids)) i (s .classes) }

@@ -5,19 +5,19 @@ ghost use mathlib.Core.List.{_++_};
 ghost use Prim.Native.Nat.{_+_, _-_, _*_, _≤_, _<_};
 ghost use lib.ListN.{length, getD, drop};
 ghost use Rattle.ring_theory.specs.Ring.{without};
-ghost use Rattle.ring_ears.specs.Ears.{Lent, corner, convex, triangleAt, Placed, blocks, blocked, ear, classOf, turnOf, reclass, recut, cutIn};
-ghost use Rattle.ring_ears.specs.Changes.{unlike, turned, returned};
+ghost use Rattle.ring_ears.specs.Ears.{Lent, corner, convex, triangleAt, Indexed, blocks, blocked, ear, classOf, turnOf, reclassify, reclassifyBoth, cutIn};
+ghost use Rattle.ring_ears.specs.Changes.{differ, changed, oneChanged};
 use base::Side;
 use vec3::Vec3;
 
-// The corners of the triangle at a place: the one before, its own, the one after.
+// The corners of the triangle at an index: the one before, its own, the one after.
 pub struct Triangle {
     pub previous: Vec3,
     pub this: Vec3,
     pub next: Vec3,
 }
 
-// The position of the corner at place i.
+// The position of the corner at index i.
 pub fn corner_at(ps: &[f64], ids: &[u16], i: usize) -> Vec3
     requires { ⌜ (i < length (now ids)) × (3 * getD (now ids) i 0 + 2 < length (now ps)) ⌝ }
     ensures { λ r. ⌜ r ≡ corner (now (ps .entry)) (now (ids .entry)) i ⌝ }
@@ -33,7 +33,7 @@ pub fn is_convex(ids: &[u16], classes: &[u8], i: usize) -> bool
 }
 
 pub fn triangle_at(ps: &[f64], ids: &[u16], i: usize) -> Triangle
-    requires { ⌜ Placed (now ps) (now ids) × (i < length (now ids)) × (length (now ids) ≤ 512) ⌝ }
+    requires { ⌜ Indexed (now ps) (now ids) × (i < length (now ids)) × (length (now ids) ≤ 512) ⌝ }
     ensures { λ r. ⌜ r ≡ triangleAt (now (ps .entry)) (now (ids .entry)) i ⌝ }
 {
     let previous = corner_at(ps, ids, ring_index::previous(i, ids.len()));
@@ -46,7 +46,7 @@ pub fn triangle_at(ps: &[f64], ids: &[u16], i: usize) -> Triangle
     }
 }
 
-// Whether the corner at place j is of another class than convex, and inside or on an edge of the triangle.
+// Whether the corner at index j is of another class than convex, and inside or on an edge of the triangle.
 fn is_block(ps: &[f64], ids: &[u16], classes: &[u8], t: Triangle, j: usize) -> bool
     requires { ⌜ (j < length (now ids)) × (getD (now ids) j 0 < length (now classes)) × (length (now ps) ≡ 3 * length (now classes)) ⌝ }
     ensures { λ r. ⌜ r ≡ blocks (now (ps .entry)) (now (ids .entry)) (now (classes .entry)) t j ⌝ }
@@ -70,7 +70,7 @@ fn is_blocked(ps: &[f64], ids: &[u16], classes: &[u8], t: Triangle) -> bool
     false
 }
 
-// Whether place i is an eligible ear.
+// Whether index i is an eligible ear.
 pub fn is_ear(ps: &[f64], ids: &[u16], classes: &[u8], i: usize) -> bool
     requires { ⌜ Lent (now ps) (now ids) (now classes) × (i < length (now ids)) ⌝ }
     ensures { λ r. ⌜ r ≡ ear (now (ps .entry)) (now (ids .entry)) (now (classes .entry)) i ⌝ }
@@ -81,7 +81,7 @@ pub fn is_ear(ps: &[f64], ids: &[u16], classes: &[u8], i: usize) -> bool
     false
 }
 
-// Takes the number at place i out; the last place keeps its own.
+// Takes the number at index i out; the last index keeps its own.
 fn remove_at(ids: &mut [u16], i: usize)
     requires { ⌜ (i < length (now ids)) × (length (now ids) ≤ 512) ⌝ }
     ensures { λ _. ⌜ now (ids .exit) ≡ without i (now (ids .entry)) ++ drop (length (now (ids .entry)) - 1) (now (ids .entry)) ⌝ }
@@ -102,9 +102,9 @@ fn class_of(s: Side) -> u8
     }
 }
 
-// The class of the corner at place i. Most are convex by one product.
+// The class of the corner at index i. Most are convex by one product.
 fn class_at(ps: &[f64], ids: &[u16], i: usize) -> u8
-    requires { ⌜ Placed (now ps) (now ids) × (i < length (now ids)) × (length (now ids) ≤ 512) ⌝ }
+    requires { ⌜ Indexed (now ps) (now ids) × (i < length (now ids)) × (length (now ids) ≤ 512) ⌝ }
     ensures { λ r. ⌜ r ≡ classOf (turnOf (triangleAt (now (ps .entry)) (now (ids .entry)) i)) ⌝ }
 {
     let t = triangle_at(ps, ids, i);
@@ -115,15 +115,15 @@ fn class_at(ps: &[f64], ids: &[u16], i: usize) -> u8
 }
 
 fn differ(a: bool, b: bool) -> bool
-    ensures { λ r. ⌜ r ≡ unlike a b ⌝ }
+    ensures { λ r. ⌜ r ≡ differ a b ⌝ }
 {
     if a { !b } else { b }
 }
 
-// Classes the corner at place i afresh; whether it was convex and is not, or the other way round.
+// Classes the corner at index i afresh; whether it was convex and is not, or the other way round.
 fn reclassify(ps: &[f64], ids: &[u16], classes: &mut [u8], i: usize) -> bool
     requires { ⌜ Lent (now ps) (now ids) (now classes) × (i < length (now ids)) ⌝ }
-    ensures { λ r. ⌜ (now (classes .exit) ≡ reclass (now (ps .entry)) (now (ids .entry)) i (now (classes .entry))) × (r ≡ turned (now (ps .entry)) (now (ids .entry)) i (now (classes .entry))) ⌝ }
+    ensures { λ r. ⌜ (now (classes .exit) ≡ reclassify (now (ps .entry)) (now (ids .entry)) i (now (classes .entry))) × (r ≡ changed (now (ps .entry)) (now (ids .entry)) i (now (classes .entry))) ⌝ }
 {
     let c = class_at(ps, ids, i);
     let was = is_convex(ids, classes, i);
@@ -132,11 +132,11 @@ fn reclassify(ps: &[f64], ids: &[u16], classes: &mut [u8], i: usize) -> bool
     differ(was, c == 0)
 }
 
-// Classes the two neighbours of a corner that was cut off at place i afresh, if more than three are left; whether one of them was convex and is not, or
+// Classes the two neighbours of a corner that was cut off at index i afresh, if more than three are left; whether one of them was convex and is not, or
 // the other way round.
 fn reclassify_both(ps: &[f64], ids: &[u16], classes: &mut [u8], i: usize) -> bool
     requires { ⌜ Lent (now ps) (now ids) (now classes) × (i ≤ length (now ids)) ⌝ }
-    ensures { λ r. ⌜ (now (classes .exit) ≡ recut (now (ps .entry)) (now (ids .entry)) i (now (classes .entry))) × (r ≡ returned (now (ps .entry)) (now (ids .entry)) i (now (classes .entry))) ⌝ }
+    ensures { λ r. ⌜ (now (classes .exit) ≡ reclassifyBoth (now (ps .entry)) (now (ids .entry)) i (now (classes .entry))) × (r ≡ oneChanged (now (ps .entry)) (now (ids .entry)) i (now (classes .entry))) ⌝ }
 {
     let m = ids.len();
     if 3 < m {
@@ -149,17 +149,17 @@ fn reclassify_both(ps: &[f64], ids: &[u16], classes: &mut [u8], i: usize) -> boo
     false
 }
 
-// Cuts the corner at place i off: its number goes, and the last place keeps its own. Whether a neighbour was convex and is not, or the other way round.
+// Cuts the corner at index i off: its number goes, and the last index keeps its own. Whether a neighbour was convex and is not, or the other way round.
 pub fn cut_told(ps: &[f64], ids: &mut [u16], classes: &mut [u8], i: usize) -> bool
     requires { ⌜ Lent (now ps) (now ids) (now classes) × (i < length (now ids)) ⌝ }
-    ensures { λ r. ⌜ (record { ids = now (ids .exit); classes = now (classes .exit) } ≡ cutIn (now (ps .entry)) (record { ids = now (ids .entry); classes = now (classes .entry) }) i) × (r ≡ returned (now (ps .entry)) (without i (now (ids .entry))) i (now (classes .entry))) ⌝ }
+    ensures { λ r. ⌜ (record { ids = now (ids .exit); classes = now (classes .exit) } ≡ cutIn (now (ps .entry)) (record { ids = now (ids .entry); classes = now (classes .entry) }) i) × (r ≡ oneChanged (now (ps .entry)) (without i (now (ids .entry))) i (now (classes .entry))) ⌝ }
 {
     remove_at(ids, i);
     let m = ids.len() - 1;
     reclassify_both(ps, &ids[..m], classes, i)
 }
 
-// Cuts the corner at place i off.
+// Cuts the corner at index i off.
 pub fn cut_one(ps: &[f64], ids: &mut [u16], classes: &mut [u8], i: usize)
     requires { ⌜ Lent (now ps) (now ids) (now classes) × (i < length (now ids)) ⌝ }
     ensures { λ _. ⌜ record { ids = now (ids .exit); classes = now (classes .exit) } ≡ cutIn (now (ps .entry)) (record { ids = now (ids .entry); classes = now (classes .entry) }) i ⌝ }

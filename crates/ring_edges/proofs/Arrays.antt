@@ -1,12 +1,11 @@
 -- The work arrays of a block: their size, what stands in them, and that units of products are the candidates. Assumes nothing.
 use Prim.Native.Nat.{ℕ, _+_, _-_, _*_, _≤_, _<_}
-use mathlib.Core.Path.{_≡_, refl, sym, ap, _∙_}
+use mathlib.Core.Path.{_≡_, ap, _∙_}
 use mathlib.Core.List.{List}
-use native.Mathlib.Nat.{add-zero, zero-add}
+use native.Mathlib.Nat.{zero-add}
 use native.Mathlib.Omega.{arith}
-use lib.ListN.{length, getD}
-use lib.Ieee.{Float, nan}
-use Rattle.laws.specs.Loop.{flat}
+use lib.ListN.{length}
+use lib.Ieee.{Float}
 use Rattle.laws.proofs.Parts.{flat-same}
 use Rattle.vec3.specs.declared.Vec3.{Vec3}
 use Rattle.vec3.specs.Vec.{unitVec, rawAt, coords}

@@ -11,7 +11,7 @@ pub fn wrapped(k: usize, n: usize) -> usize
     if k == n { 0 } else { k }
 }
 
-// The place after i.
+// The index after i.
 pub fn next(i: usize, n: usize) -> usize
     requires { ⌜ (i < n) × (n ≤ 512) ⌝ }
     ensures { λ r. ⌜ (r ≡ (i + 1) % n) × (r < n) ⌝ }
@@ -19,7 +19,7 @@ pub fn next(i: usize, n: usize) -> usize
     wrapped(i + 1, n)
 }
 
-// The place before i.
+// The index before i.
 pub fn previous(i: usize, n: usize) -> usize
     requires { ⌜ (i < n) × (n ≤ 512) ⌝ }
     ensures { λ r. ⌜ (r ≡ (i + n - 1) % n) × (r < n) ⌝ }

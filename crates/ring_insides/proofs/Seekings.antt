@@ -1,7 +1,7 @@
--- Means being found while a ring is cut: what holds where m places are left and the means so far are f. Assumes nothing.
+-- Means being found while a ring is cut: what holds where m corners are left and the means so far are f. Assumes nothing.
 use Prim.Native.Nat.{ℕ, suc, _-_, _≤_, _<_}
 use mathlib.Core.Path.{_≡_, refl, sym, ap, _∙_}
-use mathlib.Core.Bool.{true, false, true≢false}
+use mathlib.Core.Bool.{true, true≢false}
 use mathlib.Core.List.{List, [], _∷_, _++_, append-nil}
 use native.Mathlib.Omega.{arith}
 use lib.Ieee.{Float}
@@ -15,7 +15,7 @@ use Rattle.ring_reflex.specs.Lowest.{lowest}
 use Rattle.ring_reflex.specs.Apart.{apartOf}
 use Rattle.ring_insides.specs.declared.Found.{Found}
 use Rattle.ring_insides.specs.declared.Found.the-variants as F
-use Rattle.ring_cut.specs.declared.Insides.{Insides}
+use Rattle.vec3.specs.declared.Insides.{Insides}
 use Rattle.ring_cut.specs.Cut.{wholeRing, cutting}
 use Rattle.ring_insides.specs.Insides.{withMean, isBoth, meanOf, withMeans, meansFrom, insidesFrom, insidesOf}
 use Rattle.ring_cut.proofs.Turns.{cutting-on, cutting-stuck, cutting-end, whole-three}

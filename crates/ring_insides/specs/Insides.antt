@@ -11,8 +11,8 @@ use Rattle.ring_ears.specs.declared.Triangle.{Triangle}
 use Rattle.ring_ears.specs.Ears.{Remaining}
 use Rattle.ring_insides.specs.declared.Found.{Found}
 use Rattle.ring_insides.specs.declared.Found.the-variants as F
-use Rattle.ring_cut.specs.declared.Insides.{Insides}
-use Rattle.ring_cut.specs.declared.Insides.the-variants as I
+use Rattle.vec3.specs.declared.Insides.{Insides}
+use Rattle.vec3.specs.declared.Insides.the-variants as I
 use Rattle.ring_cut.specs.Cut.{wholeRing, cuttingFrom}
 
 -- the means found so far, with one more

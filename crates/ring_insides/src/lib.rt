@@ -2,11 +2,11 @@
 ghost use mathlib.Core.Path.{_≡_};
 ghost use Prim.Native.Nat.{_≤_, _<_};
 ghost use lib.ListN.{length};
-ghost use Rattle.ring_ears.specs.Ears.{Lent, Placed, triangleAt};
+ghost use Rattle.ring_ears.specs.Ears.{Lent, Indexed, triangleAt};
 ghost use Rattle.vec3.specs.declared.Point as Point;
 ghost use Rattle.ring_cut.specs.Cut.{Ring, Work};
 ghost use Rattle.ring_insides.specs.Insides.{withMean, isBoth, meanOf, meansFrom, insidesFrom, insidesOf};
-use ring_cut::Insides;
+use vec3::Insides;
 use vec3::Point;
 use vec3::Vec3;
 
@@ -57,9 +57,9 @@ fn insides_from(f: Found) -> Insides
     }
 }
 
-// The mean of the triangle at place i.
+// The mean of the triangle at index i.
 fn mean_at(ps: &[f64], ids: &[u16], i: usize) -> Point
-    requires { ⌜ Placed (now ps) (now ids) × (i < length (now ids)) × (length (now ids) ≤ 512) ⌝ }
+    requires { ⌜ Indexed (now ps) (now ids) × (i < length (now ids)) × (length (now ids) ≤ 512) ⌝ }
     ensures { λ r. ⌜ r ≡ meanOf (triangleAt (now (ps .entry)) (now (ids .entry)) i) ⌝ }
 {
     let t = ring_ears::triangle_at(ps, ids, i);
@@ -89,7 +89,7 @@ fn find_means(ps: &[f64], ids: &mut [u16], classes: &mut [u8], apart: &mut [u16]
     with_mean(f, mean_at(ps, &ids[..m], 1))
 }
 
-// `find_insides` with its work places.
+// `find_insides` with its work arrays.
 fn find_insides_in(
     ps: &[f64],
     classes: &[u8],
@@ -100,7 +100,7 @@ fn find_insides_in(
     requires { ⌜ Work (now ps) (now classes) (now ids) (now work) × (length (now apart) ≡ length (now classes)) ⌝ }
     ensures { λ r. ⌜ r ≡ insidesOf (now (ps .entry)) (now (classes .entry)) ⌝ }
 {
-    ring_cut::start(classes, ids, work);
+    ring_cut::whole_ring(classes, ids, work);
     insides_from(find_means(ps, ids, work, apart))
 }
 

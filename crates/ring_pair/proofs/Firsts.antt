@@ -1,4 +1,4 @@
--- Some place has p exactly if the first that has comes before the end. Assumes nothing.
+-- Some index has p exactly if the first that has comes before the end. Assumes nothing.
 use Prim.Native.Nat.{ℕ, zero, suc, _+_, _<_}
 use mathlib.Core.Bool.{Bool, true, false, _||_, cond, not}
 use mathlib.Core.Path.{_≡_, sym}

@@ -9,7 +9,7 @@ use Rattle.laws.specs.Loop.{anyOf, firstAt}
 use Rattle.vec3.specs.declared.Point.{Point}
 use Rattle.vec3.specs.declared.Point.the-variants.{Absent, At}
 use Rattle.vec3.specs.Vec.{posAt}
-use Rattle.vec3.specs.Points.{middle}
+use Rattle.vec3.specs.Points.{midpoint}
 use Rattle.ring_edges.specs.Edges.{onEdge}
 use Rattle.ring_pair.specs.declared.Probe.{Probe}
 use Rattle.ring_pair.specs.declared.Probe.the-variants.{Nowhere, Corner, Middle}
@@ -20,7 +20,7 @@ freeCorner ps rs rn m i = not (onEdge rs rn m (posAt ps i))
 
 -- the midpoint of the probe's edge i, by the stand-in of document 01
 unfoldable pub middleAt : List Float → ℕ → ℕ → Point
-middleAt ps n i = middle (posAt ps i) (posAt ps ((i + 1) % n))
+middleAt ps n i = midpoint (posAt ps i) (posAt ps ((i + 1) % n))
 
 -- an edge without a midpoint is passed over
 abbrev pub freePoint : List Float → List Float → ℕ → Point → Bool
@@ -51,6 +51,6 @@ middleProbe ps n rs rn m =
     let i = firstMiddle ps n rs rn m in
     if ltb i n then asMiddle (middleAt ps n i) else Nowhere
 
-unfoldable pub probeOf : List Float → ℕ → List Float → List Float → ℕ → Probe
-probeOf ps n rs rn m =
+unfoldable pub unambiguousPoint : List Float → ℕ → List Float → List Float → ℕ → Probe
+unambiguousPoint ps n rs rn m =
     if askedMidpoint ps n rs rn m then middleProbe ps n rs rn m else Corner (posAt ps (firstCorner ps n rs rn m))

@@ -289,7 +289,7 @@ pub fn unambiguous_point(
     m: usize,
 ) -> Probe
     requires { ⌜ (n ≤ 512) × (3 * n ≤ length (now probe)) × (m ≤ 512) × (3 * m ≤ length (now positions)) × (3 * m ≤ length (now normals)) ⌝ }
-    ensures { λ r. ⌜ r ≡ P.probeOf (now (probe .entry)) n (now (positions .entry)) (now (normals .entry)) m ⌝ }
+    ensures { λ r. ⌜ r ≡ P.unambiguousPoint (now (probe .entry)) n (now (positions .entry)) (now (normals .entry)) m ⌝ }
 {
     let i = first_corner(probe, n, positions, normals, m);
     if i < n {

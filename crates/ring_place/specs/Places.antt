@@ -8,7 +8,7 @@ use Rattle.numbers.specs.Choice.{if_then_else_}
 use Rattle.numbers.specs.F64.{epsilon}
 use Rattle.numbers.specs.F64 as F
 use Rattle.numbers.specs.Near.{near}
-use Rattle.laws.specs.Loop.{turns}
+use Rattle.laws.specs.Loop.{iterate}
 use Rattle.vec3.specs.declared.Vec3.{Vec3}
 use Rattle.vec3.specs.declared.Point.{Point}
 use Rattle.vec3.specs.declared.Point.the-variants.{Absent, At}
@@ -52,7 +52,7 @@ pass arc ps ns n i s = passed n i (meetingPoint (meetingOf arc (edgeAt ps ns n i
 
 -- whether the arc crosses the ring's n edges an even number of times
 unfoldable pub crossedEvenly : MinorArc → List Float → List Float → ℕ → Bool
-crossedEvenly arc ps ns n = turns (pass arc ps ns n) n 0 start .even
+crossedEvenly arc ps ns n = iterate (pass arc ps ns n) n 0 start .even
 
 -- the inside that the arc starts from: the second where the first is exactly opposite p
 unfoldable pub from : Vec3 → Vec3 → Vec3 → Vec3

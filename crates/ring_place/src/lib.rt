@@ -3,7 +3,7 @@
 ghost use mathlib.Core.Path.{_≡_};
 ghost use Prim.Native.Nat.{_+_, _-_, _*_, _≤_, _<_};
 ghost use lib.ListN.{length};
-ghost use Rattle.laws.specs.Loop.{turns};
+ghost use Rattle.laws.specs.Loop.{iterate};
 ghost use Rattle.minor_arc.specs.Arcs.{meetingOf, meetingPoint};
 ghost use Rattle.ring_edges.specs.Blocks as B;
 ghost use Rattle.ring_edges.specs.Edges as E;
@@ -97,7 +97,7 @@ fn pass_edges(
     before: Crossings,
 ) -> Crossings
     requires { ⌜ (from ≤ to) × (to ≤ n) × (n ≤ 512) × (3 * n ≤ length (now positions)) × (3 * n ≤ length (now normals)) × (now candidates ≡ B.candidates (arc .normal) (now normals) from (to - from)) ⌝ }
-    ensures { λ r. ⌜ r ≡ turns (P.pass arc (now (positions .entry)) (now (normals .entry)) n) (to - from) from before ⌝ }
+    ensures { λ r. ⌜ r ≡ iterate (P.pass arc (now (positions .entry)) (now (normals .entry)) n) (to - from) from before ⌝ }
 {
     let mut s = before;
     for i in from..to {
@@ -120,7 +120,7 @@ fn pass_with(
     before: Crossings,
 ) -> Crossings
     requires { ⌜ (from ≤ to) × (to ≤ n) × (n ≤ 512) × (3 * n ≤ length (now positions)) × (3 * n ≤ length (now normals)) × (length (now work) ≡ 3 * (to - from)) × (length (now candidates) ≡ 3 * (to - from)) ⌝ }
-    ensures { λ r. ⌜ r ≡ turns (P.pass arc (now (positions .entry)) (now (normals .entry)) n) (to - from) from before ⌝ }
+    ensures { λ r. ⌜ r ≡ iterate (P.pass arc (now (positions .entry)) (now (normals .entry)) n) (to - from) from before ⌝ }
 {
     ring_edges::write_candidates(arc.normal, normals, from, to - from, work, candidates);
     pass_edges(arc, positions, normals, n, from, to, candidates, before)
@@ -137,7 +137,7 @@ fn pass_block(
     before: Crossings,
 ) -> Crossings
     requires { ⌜ (from ≤ to) × (to ≤ from + 16) × (to ≤ n) × (n ≤ 512) × (3 * n ≤ length (now positions)) × (3 * n ≤ length (now normals)) ⌝ }
-    ensures { λ r. ⌜ r ≡ turns (P.pass arc (now (positions .entry)) (now (normals .entry)) n) (to - from) from before ⌝ }
+    ensures { λ r. ⌜ r ≡ iterate (P.pass arc (now (positions .entry)) (now (normals .entry)) n) (to - from) from before ⌝ }
 {
     let size = 3 * (to - from);
     let mut work = [0.0f64; 48];

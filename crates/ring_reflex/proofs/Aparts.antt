@@ -14,7 +14,7 @@ use Rattle.laws.proofs.Loops.{any-later}
 use Rattle.ring_theory.specs.Ring.{Below, without}
 use Rattle.vec3.specs.Vec.{posAt}
 use Rattle.ring_ears.specs.declared.Triangle.{Triangle}
-use Rattle.ring_ears.specs.Ears.{Lent, Placed, convex, triangleAt, blocksIf, blocks, blocked, ear}
+use Rattle.ring_ears.specs.Ears.{Lent, Indexed, convex, triangleAt, blocksIf, blocks, blocked, ear}
 use Rattle.ring_reflex.specs.Apart.{keepIf, pastIf, apartOf, holds, held}
 
 -- one more is listed, or passed over
@@ -89,8 +89,8 @@ module _ {ps : List Float} {ids classes apart : List ℕ} (l : Lent ps ids class
   pub apart-lent : Below (length classes) apart
   apart-lent = rw e (below-apart ids classes (l .below))
 
-  pub apart-placed : Placed ps apart
-  apart-placed j h = omega (arith, apart-lent j h, l .whole)
+  pub apart-indexed : Indexed ps apart
+  apart-indexed j h = omega (arith, apart-lent j h, l .whole)
 
   pub apart-few : length apart ≤ length ids
   apart-few = rw e (length-apart ids classes)
@@ -107,7 +107,7 @@ module _ {ps : List Float} {ids classes apart : List ℕ} (l : Lent ps ids class
   unfolding anyOf
   free-none i c z = rw z at (free i c)
 
--- ---- the invariant of the loop that lists them: at place j there are k
+-- ---- the invariant of the loop that lists them: at index j there are k
 pub record Listed (ids classes apart₀ apart : List ℕ) (k j : ℕ) : Type 0 where
   pub within : j ≤ length ids
   pub few : k ≤ j

@@ -12,13 +12,13 @@ use borrow.Author.Tests.{eqb-true, eqb-false, ltb-true}
 use Rattle.laws.proofs.Loops.{wraps}
 use Rattle.ring_theory.specs.Ring.{prev, without}
 use Rattle.ring_theory.proofs.Withouts.{length-without, taken}
-use Rattle.ring_ears.specs.Ears.{Lent, convex, triangleAt, classOf, turnOf, reclass, recut, Remaining, cutIn}
+use Rattle.ring_ears.specs.Ears.{Lent, convex, triangleAt, classOf, turnOf, reclassify, reclassifyBoth, Remaining, cutIn}
 use Rattle.ring_reflex.specs.Apart.{apartOf}
-use Rattle.ring_ears.specs.Changes.{unlike, turned, returned}
-use Rattle.ring_ears.proofs.Places.{relent, lent-without}
+use Rattle.ring_ears.specs.Changes.{differ, changed, oneChanged}
+use Rattle.ring_ears.proofs.Indexes.{relent, lent-without}
 use Rattle.ring_reflex.proofs.Aparts.{Alike, apart-alike, apart-without}
 
-same-one : (a b : Bool) → unlike a b ≡ false → b ≡ a
+same-one : (a b : Bool) → differ a b ≡ false → b ≡ a
 same-one true true e = refl
 same-one true false e = absurd (true≢false e)
 same-one false b e = e
@@ -28,45 +28,45 @@ neither true b e = absurd (true≢false e)
 neither false b e = (refl, e)
 
 module _ (ps : List Float) (ids : List ℕ) where
-  pub alike-one : (i : ℕ) (classes : List ℕ) → getD ids i 0 < length classes → turned ps ids i classes ≡ false → Alike classes (reclass ps ids i classes)
-  unfolding turned reclass
+  pub alike-one : (i : ℕ) (classes : List ℕ) → getD ids i 0 < length classes → changed ps ids i classes ≡ false → Alike classes (reclassify ps ids i classes)
+  unfolding changed reclassify
   alike-one i classes h e k = go (eqb k (getD ids i 0)) refl
     where
       go : (b : Bool) → eqb k (getD ids i 0) ≡ b → eqb (getD (set classes (getD ids i 0) (classOf (turnOf (triangleAt ps ids i)))) k 0) 0 ≡ eqb (getD classes k 0) 0
       go true q = rw (eqb-true k (getD ids i 0) q, getD-set-same classes (getD ids i 0) (classOf (turnOf (triangleAt ps ids i))) 0 h) (same-one _ _ e)
       go false q = rw (getD-set-other classes (getD ids i 0) k (classOf (turnOf (triangleAt ps ids i))) 0 (eqb-false k (getD ids i 0) q))
 
-size-one : (ps : List Float) (ids : List ℕ) (i : ℕ) (classes : List ℕ) → length (reclass ps ids i classes) ≡ length classes
-unfolding reclass
+size-one : (ps : List Float) (ids : List ℕ) (i : ℕ) (classes : List ℕ) → length (reclassify ps ids i classes) ≡ length classes
+unfolding reclassify
 size-one ps ids i classes = length-set classes (getD ids i 0) _
 
 module _ {ps : List Float} {ids classes : List ℕ} (l : Lent ps ids classes) (i : ℕ) where
   -- both neighbours, one after the other
-  both : 3 < length ids → turned ps ids (i % length ids) classes || turned ps ids (prev ids i) (reclass ps ids (i % length ids) classes) ≡ false
-      → Alike classes (reclass ps ids (prev ids i) (reclass ps ids (i % length ids) classes))
+  both : 3 < length ids → changed ps ids (i % length ids) classes || changed ps ids (prev ids i) (reclassify ps ids (i % length ids) classes) ≡ false
+      → Alike classes (reclassify ps ids (prev ids i) (reclassify ps ids (i % length ids) classes))
   both h e k =
       let n = i % length ids in
-      let f = neither (turned ps ids n classes) (turned ps ids (prev ids i) (reclass ps ids n classes)) e in
+      let f = neither (changed ps ids n classes) (changed ps ids (prev ids i) (reclassify ps ids n classes)) e in
       let first = alike-one ps ids n classes (l .below n (wraps i h)) (f .0) k in
-      let second = alike-one ps ids (prev ids i) (reclass ps ids n classes) (rw (size-one ps ids n classes) (l .below (prev ids i) (wraps (i + length ids - 1) h))) (f .1) k in
+      let second = alike-one ps ids (prev ids i) (reclassify ps ids n classes) (rw (size-one ps ids n classes) (l .below (prev ids i) (wraps (i + length ids - 1) h))) (f .1) k in
       second ∙ first
 
-  pub alike-both : returned ps ids i classes ≡ false → Alike classes (recut ps ids i classes)
-  unfolding returned recut
+  pub alike-both : oneChanged ps ids i classes ≡ false → Alike classes (reclassifyBoth ps ids i classes)
+  unfolding oneChanged reclassifyBoth
   alike-both e = go (ltb 3 (length ids)) refl e
     where
-      go : (b : Bool) → ltb 3 (length ids) ≡ b → cond b (turned ps ids (i % length ids) classes || turned ps ids (prev ids i) (reclass ps ids (i % length ids) classes)) false ≡ false
-          → Alike classes (cond b (reclass ps ids (prev ids i) (reclass ps ids (i % length ids) classes)) classes)
+      go : (b : Bool) → ltb 3 (length ids) ≡ b → cond b (changed ps ids (i % length ids) classes || changed ps ids (prev ids i) (reclassify ps ids (i % length ids) classes)) false ≡ false
+          → Alike classes (cond b (reclassify ps ids (prev ids i) (reclassify ps ids (i % length ids) classes)) classes)
       go true q f = both (ltb-true 3 (length ids) q) f
       go false q f = λ k. refl
 
 -- a cut that changes neither neighbour leaves the list as it was
 pub apart-kept : {ps : List Float} {ids classes : List ℕ} {i : ℕ} → Lent ps ids classes → i < length ids → convex ids classes i ≡ true
-    → returned ps (without i ids) i classes ≡ false → apartOf (without i ids) (recut ps (without i ids) i classes) ≡ apartOf ids classes
+    → oneChanged ps (without i ids) i classes ≡ false → apartOf (without i ids) (reclassifyBoth ps (without i ids) i classes) ≡ apartOf ids classes
 apart-kept {ps} {ids} {classes} {i} l h c e =
-    apart-alike (without i ids) classes (recut ps (without i ids) i classes) (alike-both (lent-without l h .0) i e) ∙ apart-without i ids classes h c
+    apart-alike (without i ids) classes (reclassifyBoth ps (without i ids) i classes) (alike-both (lent-without l h .0) i e) ∙ apart-without i ids classes h c
 
--- what a cut at place i leaves in the lent lists
+-- what a cut at index i leaves in the lent lists
 module _ {ps : List Float} {ids classes ids′ classes′ : List ℕ} {i : ℕ} (l : Lent ps ids classes) (h : i < length ids)
     (e : record { ids = ids′; classes = classes′ } ≡ cutIn ps (record { ids = ids; classes = classes }) i) (kept : length ids′ ≡ length ids) (also : length classes′ ≡ length classes) where
   pub cut-taken : take (length ids - 1) ids′ ≡ without i ids
@@ -82,7 +82,7 @@ module _ {ps : List Float} {ids classes ids′ classes′ : List ℕ} {i : ℕ} 
   cut-room k = omega (arith, cut-size)
 
   -- the list as it was, where no neighbour changed
-  pub list-kept : {list : List ℕ} → convex ids classes i ≡ true → list ≡ apartOf ids classes → returned ps (without i ids) i classes ≡ false
+  pub list-kept : {list : List ℕ} → convex ids classes i ≡ true → list ≡ apartOf ids classes → oneChanged ps (without i ids) i classes ≡ false
       → list ≡ apartOf (without i ids) classes′
   list-kept c q r = q ∙ sym (apart-kept l h c r) ∙ ap (λ (s : Remaining). apartOf (without i ids) (s .classes)) (sym e)
 

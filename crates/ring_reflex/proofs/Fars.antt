@@ -1,10 +1,10 @@
 -- A position that is right of a triangle's far edge is not in the triangle. Assumes nothing.
-use mathlib.Core.Path.{_≡_, refl, sym, ap, _∙_}
-use mathlib.Core.Bool.{Bool, true, false, not, _&&_, _||_}
+use mathlib.Core.Path.{_≡_, refl}
+use mathlib.Core.Bool.{Bool, true, false, not, _&&_}
 use Rattle.vec3.specs.declared.Vec3.{Vec3}
 use Rattle.base.specs.declared.Side.{Side}
 use Rattle.base.specs.declared.Side.the-variants.{Left, Right, Collinear}
-use Rattle.base.specs.Sides.{sideOf, surelyRight}
+use Rattle.base.specs.Sides.{surelyRight}
 use Rattle.base.proofs.Surely.{surely-right}
 use Rattle.ring_ears.specs.declared.Triangle.{Triangle}
 use Rattle.ring_triangle.specs.Inside.{isRight, fits, edgeSide, fitsEdges, isCorner, insideOrEdge}

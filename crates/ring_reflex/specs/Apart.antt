@@ -27,7 +27,7 @@ unfoldable pub apartOf : List ℕ → List ℕ → List ℕ
 apartOf [] classes = []
 apartOf (k ∷ ids) classes = keepIf (eqb (getD classes k 0) 0) k (apartOf ids classes)
 
--- the corner at place j of a list of numbers is inside the triangle or on an edge of it
+-- the corner at index j of a list of numbers is inside the triangle or on an edge of it
 unfoldable pub holds : List Float → List ℕ → Triangle → ℕ → Bool
 holds ps ids t j = insideOrEdge (corner ps ids j) (t .previous) (t .this) (t .next)
 

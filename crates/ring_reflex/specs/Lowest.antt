@@ -6,6 +6,6 @@ use lib.Ieee.{Float}
 use Rattle.laws.specs.Loop.{firstAt}
 use Rattle.ring_ears.specs.Ears.{ear}
 
--- its place, or the number of places if there is none
+-- its index, or the length of the list if there is none
 abbrev pub lowest : List Float → List ℕ → List ℕ → ℕ
 lowest ps ids classes = firstAt (ear ps ids classes) (length ids) 0

@@ -5,7 +5,7 @@ ghost use Prim.Native.Nat.{_+_, _*_, _≤_, _<_};
 ghost use mathlib.Core.Bool.{true};
 ghost use lib.ListN.{length, getD, take};
 ghost use Rattle.ring_theory.specs.Ring.{Below, without};
-ghost use Rattle.ring_ears.specs.Ears.{Lent, Placed, convex, ear, cutIn};
+ghost use Rattle.ring_ears.specs.Ears.{Lent, Indexed, convex, ear, cutIn};
 ghost use Rattle.ring_reflex.specs.Lowest.{lowest};
 ghost use Rattle.ring_reflex.specs.Apart.{pastIf, apartOf, holds, held, farNormal};
 use ring_ears::Triangle;
@@ -22,7 +22,7 @@ fn far_normal(t: Triangle) -> Vec3
     }
 }
 
-// Whether the corner at place j is inside the triangle or on an edge of it. Most are beyond its far edge, which one product tells.
+// Whether the corner at index j is inside the triangle or on an edge of it. Most are beyond its far edge, which one product tells.
 fn is_held(ps: &[f64], apart: &[u16], t: Triangle, normal: Vec3, j: usize) -> bool
     requires { ⌜ (normal ≡ farNormal t) × (j < length (now apart)) × (3 * getD (now apart) j 0 + 2 < length (now ps)) ⌝ }
     ensures { λ r. ⌜ r ≡ holds (now (ps .entry)) (now (apart .entry)) t j ⌝ }
@@ -36,7 +36,7 @@ fn is_held(ps: &[f64], apart: &[u16], t: Triangle, normal: Vec3, j: usize) -> bo
 
 // Whether one of those listed is.
 fn is_one_held(ps: &[f64], apart: &[u16], t: Triangle) -> bool
-    requires { ⌜ Placed (now ps) (now apart) × (length (now apart) ≤ 512) ⌝ }
+    requires { ⌜ Indexed (now ps) (now apart) × (length (now apart) ≤ 512) ⌝ }
     ensures { λ r. ⌜ r ≡ held (now (ps .entry)) (now (apart .entry)) t ⌝ }
 {
     let normal = far_normal(t);
@@ -48,7 +48,7 @@ fn is_one_held(ps: &[f64], apart: &[u16], t: Triangle) -> bool
     false
 }
 
-// Whether place i is an eligible ear, where `apart` lists the corners that are not convex.
+// Whether index i is an eligible ear, where `apart` lists the corners that are not convex.
 fn is_free(ps: &[f64], ids: &[u16], classes: &[u8], apart: &[u16], i: usize) -> bool
     requires { ⌜ Lent (now ps) (now ids) (now classes) × (now apart ≡ apartOf (now ids) (now classes)) × (i < length (now ids)) ⌝ }
     ensures { λ r. ⌜ r ≡ ear (now (ps .entry)) (now (ids .entry)) (now (classes .entry)) i ⌝ }
@@ -62,7 +62,7 @@ fn is_free(ps: &[f64], ids: &[u16], classes: &[u8], apart: &[u16], i: usize) -> 
     false
 }
 
-// The lowest eligible ear, where `apart` lists the corners that are not convex; the number of places if there is none.
+// The lowest eligible ear, where `apart` lists the corners that are not convex; the length of the list if there is none.
 pub fn lowest_ear(ps: &[f64], ids: &[u16], classes: &[u8], apart: &[u16]) -> usize
     requires { ⌜ Lent (now ps) (now ids) (now classes) × (now apart ≡ apartOf (now ids) (now classes)) ⌝ }
     ensures { λ r. ⌜ r ≡ lowest (now (ps .entry)) (now (ids .entry)) (now (classes .entry)) ⌝ }

@@ -163,7 +163,7 @@ fn agree(
     vec3::at(positions, i).equals(vec3::at(others, j)) & (classes[i] == theirs[j])
 }
 
-// The place k, counted round.
+// The index k, counted round.
 fn wrap(k: usize, n: usize) -> usize
     requires { ⌜ 0 < n ⌝ }
     ensures { λ r. ⌜ (r ≡ k % n) × (r < n) ⌝ }

@@ -3,9 +3,8 @@ pub mod Rounds
 pub mod Sides
 pub mod Crossings
 pub mod Steps
-pub mod Places
+pub mod Indexes
 pub mod Threes
 pub mod Theorem
-pub mod Begun
 pub mod Flips
 pub mod Examples

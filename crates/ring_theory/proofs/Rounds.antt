@@ -9,10 +9,10 @@ pub data Round (u w v : ℕ) : Type 0 where
   over : v < u → u < w → Round u w v
   after : w < v → v < u → Round u w v
 
-pub turned : {u w v : ℕ} → Round u w v → Round w v u
-turned (straight h k) = over h k
-turned (over h k) = after h k
-turned (after h k) = straight h k
+pub rotated : {u w v : ℕ} → Round u w v → Round w v u
+rotated (straight h k) = over h k
+rotated (over h k) = after h k
+rotated (after h k) = straight h k
 
 pub later : {a b c d : ℕ} → Round a b c → Round a c d → Round a b d
 later (straight h k) (straight l m) = straight h (omega arith)

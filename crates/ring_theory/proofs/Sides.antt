@@ -13,25 +13,25 @@ pub record Different (a b c : ℕ) : Type 0 where
   pub ac : a ≢ c
 
 -- u to v is a side of the triple (a, b, c)
-pub data Turn (a b c u v : ℕ) : Type 0 where
-  one : u ≡ a → v ≡ b → Turn a b c u v
-  two : u ≡ b → v ≡ c → Turn a b c u v
-  three : u ≡ c → v ≡ a → Turn a b c u v
+pub data Leg (a b c u v : ℕ) : Type 0 where
+  one : u ≡ a → v ≡ b → Leg a b c u v
+  two : u ≡ b → v ≡ c → Leg a b c u v
+  three : u ≡ c → v ≡ a → Leg a b c u v
 
-pub dec-turn : (a b c u v : ℕ) → Dec (Turn a b c u v)
-dec-turn a b c u v = go (ℕ-discrete u a) (ℕ-discrete v b) (ℕ-discrete u b) (ℕ-discrete v c) (ℕ-discrete u c) (ℕ-discrete v a)
+pub dec-leg : (a b c u v : ℕ) → Dec (Leg a b c u v)
+dec-leg a b c u v = go (ℕ-discrete u a) (ℕ-discrete v b) (ℕ-discrete u b) (ℕ-discrete v c) (ℕ-discrete u c) (ℕ-discrete v a)
   where
-    third : ¬ ((u ≡ a) × (v ≡ b)) → ¬ ((u ≡ b) × (v ≡ c)) → Dec (u ≡ c) → Dec (v ≡ a) → Dec (Turn a b c u v)
+    third : ¬ ((u ≡ a) × (v ≡ b)) → ¬ ((u ≡ b) × (v ≡ c)) → Dec (u ≡ c) → Dec (v ≡ a) → Dec (Leg a b c u v)
     third p q (yes e) (yes f) = yes (three e f)
     third p q (yes e) (no f) = no (λ t. elim t [ one x y ↦ p (x, y) | two x y ↦ q (x, y) | three x y ↦ f y ])
     third p q (no e) d = no (λ t. elim t [ one x y ↦ p (x, y) | two x y ↦ q (x, y) | three x y ↦ e x ])
 
-    second : ¬ ((u ≡ a) × (v ≡ b)) → Dec (u ≡ b) → Dec (v ≡ c) → Dec (u ≡ c) → Dec (v ≡ a) → Dec (Turn a b c u v)
+    second : ¬ ((u ≡ a) × (v ≡ b)) → Dec (u ≡ b) → Dec (v ≡ c) → Dec (u ≡ c) → Dec (v ≡ a) → Dec (Leg a b c u v)
     second p (yes e) (yes f) g h = yes (two e f)
     second p (yes e) (no f) g h = third p (λ r. f (r .1)) g h
     second p (no e) d g h = third p (λ r. e (r .0)) g h
 
-    go : Dec (u ≡ a) → Dec (v ≡ b) → Dec (u ≡ b) → Dec (v ≡ c) → Dec (u ≡ c) → Dec (v ≡ a) → Dec (Turn a b c u v)
+    go : Dec (u ≡ a) → Dec (v ≡ b) → Dec (u ≡ b) → Dec (v ≡ c) → Dec (u ≡ c) → Dec (v ≡ a) → Dec (Leg a b c u v)
     go (yes e) (yes f) i j g h = yes (one e f)
     go (yes e) (no f) i j g h = second (λ r. f (r .1)) i j g h
     go (no e) d i j g h = second (λ r. e (r .0)) i j g h
@@ -54,19 +54,19 @@ same-no {u} {v} {a} {b} h = go (eqb u a) (eqb v b) (eqb→eq u a) (eqb→eq v b)
     go true false s t = refl
     go false y s t = refl
 
-pub passes-no : {a b c u v : ℕ} → ¬ Turn a b c u v → passes u v a b c ≡ 0
+pub passes-no : {a b c u v : ℕ} → ¬ Leg a b c u v → passes u v a b c ≡ 0
 unfolding passes
 passes-no h = rw (same-no (λ e f. h (one e f)), same-no (λ e f. h (two e f)), same-no (λ e f. h (three e f)))
 
 module _ {a b c u v : ℕ} (d : Different a b c) where
-  pub passes-yes : Turn a b c u v → passes u v a b c ≡ 1
+  pub passes-yes : Leg a b c u v → passes u v a b c ≡ 1
   unfolding passes
   passes-yes (one e f) = rw (same-yes e f, same-no {u = u} {v = v} {a = b} {b = c} (λ x y. d .ab (sym e ∙ x)), same-no {u = u} {v = v} {a = c} {b = a} (λ x y. d .ac (sym e ∙ x)))
   passes-yes (two e f) = rw (same-yes e f, same-no {u = u} {v = v} {a = a} {b = b} (λ x y. d .ab (sym x ∙ e)), same-no {u = u} {v = v} {a = c} {b = a} (λ x y. d .bc (sym e ∙ x)))
   passes-yes (three e f) = rw (same-yes e f, same-no {u = u} {v = v} {a = a} {b = b} (λ x y. d .ac (sym x ∙ e)), same-no {u = u} {v = v} {a = b} {b = c} (λ x y. d .bc (sym x ∙ e)))
 
   -- no triple runs a side both ways
-  pub one-way : Turn a b c u v → ¬ Turn a b c v u
+  pub one-way : Leg a b c u v → ¬ Leg a b c v u
   one-way (one e f) (one x y) = d .ab (sym e ∙ y)
   one-way (one e f) (two x y) = d .ac (sym e ∙ y)
   one-way (one e f) (three x y) = d .bc (sym f ∙ x)
@@ -80,9 +80,9 @@ module _ {a b c u v : ℕ} (d : Different a b c) where
 -- a triple holds a side as often as it runs it, one way and the other
 pub lies-is : {a b c : ℕ} (u v : ℕ) → Different a b c → lies u v a b c ≡ passes u v a b c + passes v u a b c
 unfolding lies
-lies-is {a} {b} {c} u v d = go (dec-turn a b c u v) (dec-turn a b c v u)
+lies-is {a} {b} {c} u v d = go (dec-leg a b c u v) (dec-leg a b c v u)
   where
-    go : Dec (Turn a b c u v) → Dec (Turn a b c v u) → _≡_ {A = ℕ} (cond (eqb (passes u v a b c + passes v u a b c) 0) 0 1) (passes u v a b c + passes v u a b c)
+    go : Dec (Leg a b c u v) → Dec (Leg a b c v u) → _≡_ {A = ℕ} (cond (eqb (passes u v a b c + passes v u a b c) 0) 0 1) (passes u v a b c + passes v u a b c)
     go (yes s) (yes t) = absurd (one-way d s t)
     go (yes s) (no t) = rw (passes-yes d s, passes-no t)
     go (no s) (yes t) = rw (passes-yes d t, passes-no s)

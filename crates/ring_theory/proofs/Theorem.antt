@@ -1,4 +1,4 @@
--- The theorem of demand 3: whatever list cuts the whole ring, place by place, meets it. Assumes nothing.
+-- The theorem of demand 3: whatever list cuts the whole ring, corner by corner, meets it. Assumes nothing.
 use Prim.Native.Nat.{ℕ, zero, suc, _+_, _-_, _*_, _≤_, _<_}
 use mathlib.Core.Path.{_≡_, refl, sym, ap, _∙_, subst₂}
 use mathlib.Core.List.{List, _++_}
@@ -12,7 +12,7 @@ use Rattle.ring_theory.specs.Demand3.{runs, holders, LoopSide, Inner, De
 use Rattle.ring_theory.proofs.Withouts.{length-without, below-without}
 use Rattle.ring_theory.proofs.Rounds.{straight, over}
 use Rattle.ring_theory.proofs.Steps.{Side, next-one, Kind, along, against, inner, none, On, Net, step}
-use Rattle.ring_theory.proofs.Places.{nth, Increasing, In, Follows, on, round, next-follows, follows-below, side-at, increasing-without, cutting}
+use Rattle.ring_theory.proofs.Indexes.{nth, Increasing, In, Follows, on, round, next-follows, follows-below, side-at, increasing-without, cutting}
 use Rattle.ring_theory.proofs.Threes.{last-net}
 
 pub net : {ids tris : List ℕ} → Cuts ids tris → Increasing ids → Net (In ids) tris
@@ -70,7 +70,7 @@ module _ (n : ℕ) (three : 3 ≤ n) where
 
   to-loop : {u v : ℕ} → Side (In (numbers n)) u v → LoopSide n u v
   to-loop {u} {v} s =
-      let j = s .from .place in
+      let j = s .from .index in
       let h : j < n = omega (arith, s .from .inside, size) in
       let e : j ≡ u = sym (number j h) ∙ s .from .there in
       let k : u < n = rw (← e) h in

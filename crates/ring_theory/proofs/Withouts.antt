@@ -16,14 +16,14 @@ module _ {A : Type 0} (i : ℕ) (l : List A) (h : i < length l) where
   pub take-without : (x : List A) → take (length l - 1) (without i l ++ x) ≡ without i l
   take-without x = take-at (without i l) x (length l - 1) length-without
 
-  -- what `remove_at` leaves, but for its last place
+  -- what `remove_at` leaves, but for its last index
   pub taken : {m : List A} (x : List A) → length m ≡ length l → m ≡ without i l ++ x → take (length m - 1) m ≡ without i l
   taken {m} x e q = rw (e, q) (take-without x)
 
   front : length (take i l) ≡ i
   front = length-take-le i l (omega arith)
 
-  -- its elements: those before place i as they were, the others one place on
+  -- its elements: those before index i as they were, the others one index on
   pub getD-without-low : (z : A) (j : ℕ) → j < i → getD (without i l) j z ≡ getD l j z
   getD-without-low z j k = List·getD-append (take i l) (drop (suc i) l) z j (rw front k) ∙ getD-take i l j z k
 

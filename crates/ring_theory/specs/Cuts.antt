@@ -1,13 +1,13 @@
--- The lists of triples that cut a ring: each but the last is a place's triple, of the ring then left. Definitions only.
+-- The lists of triples that cut a ring: each but the last is an index's triple, of the ring then left. Definitions only.
 use Prim.Native.Nat.{ℕ, _<_}
 use mathlib.Core.Path.{_≡_}
 use mathlib.Core.List.{List, _++_}
 use lib.ListN.{length}
 use Rattle.ring_theory.specs.Ring.{without, earOf}
 
--- the flat list of triples cuts the ring `ids`, at whatever places; which of them may be cut, an eligible ear say, is asked elsewhere
+-- the flat list of triples cuts the ring `ids`, at whatever indexes; which of them may be cut, an eligible ear say, is asked elsewhere
 pub data Cuts : List ℕ → List ℕ → Type 0 where
   -- three corners left are the last triple, from the first
   last : {ids : List ℕ} → length ids ≡ 3 → Cuts ids ids
-  -- (previous, this, next) at place i, and then a list that cuts what is left
+  -- (previous, this, next) at index i, and then a list that cuts what is left
   cut : {ids rest : List ℕ} (i : ℕ) → 3 < length ids → i < length ids → Cuts (without i ids) rest → Cuts ids (earOf ids i ++ rest)

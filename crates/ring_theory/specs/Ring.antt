@@ -1,4 +1,4 @@
--- A ring of corners as the list of its ring numbers, its places counted round, and a corner cut off. Definitions only.
+-- A ring of corners as the list of its ring numbers, its indexes counted round, and a corner cut off. Definitions only.
 use Prim.Native.Nat.{ℕ, suc, _+_, _-_, _%_, _<_}
 use mathlib.Core.List.{List, [], _∷_, _++_}
 use lib.ListN.{length, getD, take, drop}
@@ -15,7 +15,7 @@ numbers n = flat oneNumber n 0
 abbrev pub Below : ℕ → List ℕ → Type 0
 Below n ids = (j : ℕ) → j < length ids → getD ids j 0 < n
 
--- the places before and after i
+-- the indexes before and after i
 abbrev pub prev : List ℕ → ℕ → ℕ
 prev ids i = (i + length ids - 1) % length ids
 
@@ -26,6 +26,6 @@ next ids i = (i + 1) % length ids
 abbrev pub without {ℓ} : {A : Type ℓ} → ℕ → List A → List A
 without i l = take i l ++ drop (suc i) l
 
--- the triple at place i: previous, this, next
+-- the triple at index i: previous, this, next
 abbrev pub earOf : List ℕ → ℕ → List ℕ
 earOf ids i = getD ids (prev ids i) 0 ∷ getD ids i 0 ∷ getD ids (next ids i) 0 ∷ []

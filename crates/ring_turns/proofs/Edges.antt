@@ -8,7 +8,6 @@ use lib.ListN.{length, getD, set}
 use lib.Seq.{sets, getD-set-other}
 use lib.Ieee.{Float, nan}
 use Rattle.angle.specs.Arctan.{acute}
-use Rattle.laws.specs.Loop.{flat}
 use Rattle.laws.proofs.Blocks.{getD-flat}
 use Rattle.vec3.specs.declared.Vec3.{Vec3}
 use Rattle.laws.proofs.Copies.{length-flat}

@@ -4,7 +4,7 @@ ghost use mathlib.Core.Path.{_≡_};
 ghost use Prim.Native.Nat.{_+_, _-_, _*_, _≤_, _<_};
 ghost use lib.ListN.{length};
 ghost use Rattle.vec3.specs.Vec.{rawAt};
-ghost use Rattle.laws.specs.Loop.{turns};
+ghost use Rattle.laws.specs.Loop.{iterate};
 ghost use Rattle.ring_turns.specs.Blocks as B;
 ghost use Rattle.ring_turns.specs.Turns as T;
 use angle::Angle;
@@ -175,7 +175,7 @@ fn add_turns(
     before: Angle,
 ) -> Angle
     requires { ⌜ (from ≤ to) × (to ≤ n) × (n ≤ 512) × (now edges ≡ T.edgeNormals (now list) n) × (now sines ≡ B.sines (now list) n from (to - from)) × (now parts ≡ B.row (B.acuteAt (now list) n) from (to - from)) ⌝ }
-    ensures { λ r. ⌜ r ≡ turns (T.plusTurn (now (list .entry)) n) (to - from) from before ⌝ }
+    ensures { λ r. ⌜ r ≡ iterate (T.plusTurn (now (list .entry)) n) (to - from) from before ⌝ }
 {
     let mut sum = before;
     for i in from..to {
@@ -197,7 +197,7 @@ fn add_with(
     before: Angle,
 ) -> Angle
     requires { ⌜ (from ≤ to) × (to ≤ n) × (n ≤ 512) × (3 * n ≤ length (now list)) × (now edges ≡ T.edgeNormals (now list) n) × (length (now sines) ≡ to - from) × (length (now work) ≡ to - from) × (length (now parts) ≡ to - from) ⌝ }
-    ensures { λ r. ⌜ r ≡ turns (T.plusTurn (now (list .entry)) n) (to - from) from before ⌝ }
+    ensures { λ r. ⌜ r ≡ iterate (T.plusTurn (now (list .entry)) n) (to - from) from before ⌝ }
 {
     let k = to - from;
     write_sines(list, edges, n, from, k, sines);
@@ -208,7 +208,7 @@ fn add_with(
 // A block of turns: roots, arctangents and the sum each have a loop of their own, so that the processor has many under way at once.
 fn add_block(list: &[f64], edges: &[f64], n: usize, from: usize, to: usize, before: Angle) -> Angle
     requires { ⌜ (from ≤ to) × (to ≤ from + 16) × (to ≤ n) × (n ≤ 512) × (3 * n ≤ length (now list)) × (now edges ≡ T.edgeNormals (now list) n) ⌝ }
-    ensures { λ r. ⌜ r ≡ turns (T.plusTurn (now (list .entry)) n) (to - from) from before ⌝ }
+    ensures { λ r. ⌜ r ≡ iterate (T.plusTurn (now (list .entry)) n) (to - from) from before ⌝ }
 {
     let size = to - from;
     let mut sines = [0.0f64; 16];

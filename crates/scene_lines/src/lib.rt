@@ -6,7 +6,7 @@ ghost use Rattle.loop_header.specs.Loops.{isAbsent, mute};
 ghost use Rattle.scene_words.specs.Words.{Wrote};
 ghost use Rattle.scene_lines.specs.Lines as L;
 use loop_header::Header;
-use ring_cut::Insides;
+use vec3::Insides;
 
 // What a line says. An answer and a relation go by their numbers; the last line of a scene is `End` or `Refused`.
 pub enum Line {

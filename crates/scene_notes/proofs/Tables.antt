@@ -46,7 +46,7 @@ pub kept-passed : {c n : Notes} (size : ℕ) → Kept c → n ≡ passedNotes c 
 kept-passed size k e = record { few = rw e (k .few); size = rw e (k .size) }
 
 pub kept-added : {c : Notes} {a : Area} {count : ℕ} → Kept c → Addable c a count → Kept (addedNotes c a count)
-kept-added k x = record { few = omega (arith, x .place); size = simp length-set (k .size) }
+kept-added k x = record { few = omega (arith, x .room); size = simp length-set (k .size) }
 
 -- ---- an area that may come in
 fine-told : (a b c d : Bool) → Fine ≡ cond a (Bad NoNumber) (cond b (Bad Repeated) (cond c (Bad ManyAreas) (cond d (Bad ManyPositions) Fine))) → (c ≡ false) × (d ≡ false)
@@ -57,11 +57,11 @@ fine-told false false false true e = (cc, cc)
 fine-told false false false false e = (refl, refl)
 
 pub record Allowed (met given count : ℕ) : Type 0 where
-  pub place : met < 16
+  pub room : met < 16
   pub few : given + count ≤ 1024
 
 pub allowed : (areas : List Area) (given number count : ℕ) → Fine ≡ judgeArea areas given number count → Allowed (length areas) given count
 unfolding judgeArea
 allowed areas given number count e =
     let t = fine-told (eqb number 0) (ltb (indexOf areas number) (length areas)) (leb 16 (length areas)) (ltb 1024 (given + count)) e in
-    record { place = leb-false _ _ (t .0); few = ltb-false _ _ (t .1) }
+    record { room = leb-false _ _ (t .0); few = ltb-false _ _ (t .1) }

@@ -26,11 +26,11 @@ pub record Scene : Type 0 where
   pub normals : List Float
   pub classes : List ℕ
 
--- the place of a number among the areas met, or how many there are
+-- the index of a number among the areas met, or how many there are
 unfoldable pub indexOf : List Area → ℕ → ℕ
 indexOf areas number = firstAt (λ (i : ℕ). eqb (getD areas i nobody .number) number) (length areas) 0
 
--- the table of areas: sixteen places, of which the first `met` are taken
+-- the table of areas: sixteen entries, of which the first `met` are taken
 pub record Kept (c : Notes) : Type 0 where
   pub few : c .met ≤ 16
   pub size : length (c .areas) ≡ 16
@@ -65,7 +65,7 @@ passedNotes c size = record { at = c .at + size; records = c .records + 1; met =
 
 -- an area may be noted
 pub record Addable (c : Notes) (a : Area) (count : ℕ) : Type 0 where
-  pub place : c .met < 16
+  pub room : c .met < 16
   pub end : c .at + (8 + 24 * count) ≤ 65536
   pub few : c .records ≤ 65536
   pub given : c .given + count ≤ 1024

@@ -23,7 +23,7 @@ pub enum Judged {
     Bad(Fault),
 }
 
-// The place of a number among the areas met, or how many there are.
+// The index of a number among the areas met, or how many there are.
 pub fn index_of(c: Notes, number: usize) -> usize
     requires { ⌜ N.Kept c ⌝ }
     ensures { λ r. ⌜ r ≡ N.indexOf (N.areasOf c) number ⌝ }

@@ -47,7 +47,7 @@ readAt s at =
 -- how many bytes a record has
 abbrev pub sizeOf : Read → ℕ
 sizeOf End = 0
-sizeOf (Bad fault place) = 0
+sizeOf (Bad fault at) = 0
 sizeOf (Area number count) = 8 + 24 * count
 sizeOf (Place number) = 32
 sizeOf (Pair first second) = 10

@@ -16,7 +16,7 @@ pub enum Fault {
     ManyPositions,
 }
 
-// What stands at an offset: a record, with its area numbers and how many positions an area has; the end; or a fault and its place.
+// What stands at an offset: a record, with its area numbers and how many positions an area has; the end; or a fault and its offset.
 pub enum Read {
     End,
     Bad(Fault, usize),
@@ -25,7 +25,7 @@ pub enum Read {
     Pair(usize, usize),
 }
 
-// The number at a place, as wide as an index.
+// The number at an offset, as wide as an index.
 fn number_at(s: &[u8], at: usize) -> usize
     requires { ⌜ at + 2 ≤ length (now s) ⌝ }
     ensures { λ r. ⌜ r ≡ R.u16Of (now (s .entry)) at ⌝ }

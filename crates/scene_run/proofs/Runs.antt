@@ -15,33 +15,33 @@ use Rattle.scene_words.specs.Words.{Wrote}
 use Rattle.scene_words.proofs.Writes.{then}
 use Rattle.scene_records.proofs.Sizes.{within}
 use Rattle.scene_notes.specs.declared.Notes.{Notes}
-use Rattle.scene_steps.specs.declared.Outcome.{Outcome}
-use Rattle.scene_steps.specs.declared.Outcome.the-variants as Outcome
+use Rattle.scene_steps.specs.declared.Report.{Report}
+use Rattle.scene_steps.specs.declared.Report.the-variants as Report
 use Rattle.scene_steps.specs.declared.Stepped.{Stepped}
 use Rattle.scene_notes.specs.Noted.{Scene, Kept, areasOf, view, Fresh}
-use Rattle.scene_steps.specs.Steps.{Step, wrote, step, outcomeStep, toldStep, Ready}
+use Rattle.scene_steps.specs.Steps.{Step, wrote, step, reportStep, toldStep, Ready}
 use Rattle.scene_run.specs.Run.{textBy, linesFrom, starting, linesOf, lineOf, goesOn, Running, blankFloats, blankCodes, sceneText}
 use Rattle.scene_steps.proofs.Goods.{Onward, onward}
 
--- ---- the text of an outcome
+-- ---- the text of an report
 module _ (v w : Scene) (rest : Scene → List ℕ) where
-  text-stop : (o : Outcome) → goesOn o ≡ false → textBy (outcomeStep o v) w rest ≡ lineText (lineOf o (w .records) (w .at))
-  text-stop Outcome.End h = refl
-  text-stop (Outcome.Bad f) h = refl
-  text-stop (Outcome.Refused k) h = refl
-  text-stop (Outcome.Line l) h = absurd (false≢true (sym h))
+  text-stop : (o : Report) → goesOn o ≡ false → textBy (reportStep o v) w rest ≡ lineText (lineOf o (w .records) (w .at))
+  text-stop Report.End h = refl
+  text-stop (Report.Bad f) h = refl
+  text-stop (Report.Refused k) h = refl
+  text-stop (Report.Line l) h = absurd (false≢true (sym h))
 
-  text-on : (o : Outcome) → goesOn o ≡ true → textBy (outcomeStep o v) w rest ≡ lineText (lineOf o (w .records) (w .at)) ++ rest v
-  text-on Outcome.End h = absurd (false≢true h)
-  text-on (Outcome.Bad f) h = absurd (false≢true h)
-  text-on (Outcome.Refused k) h = absurd (false≢true h)
-  text-on (Outcome.Line l) h = refl
+  text-on : (o : Report) → goesOn o ≡ true → textBy (reportStep o v) w rest ≡ lineText (lineOf o (w .records) (w .at)) ++ rest v
+  text-on Report.End h = absurd (false≢true h)
+  text-on (Report.Bad f) h = absurd (false≢true h)
+  text-on (Report.Refused k) h = absurd (false≢true h)
+  text-on (Report.Line l) h = refl
 
-wrote-on : (v : Scene) (o : Outcome) (records at : ℕ) → goesOn o ≡ true → outcomeStep o v ≡ wrote (lineOf o records at) v
-wrote-on v Outcome.End records at h = absurd (false≢true h)
-wrote-on v (Outcome.Bad f) records at h = absurd (false≢true h)
-wrote-on v (Outcome.Refused k) records at h = absurd (false≢true h)
-wrote-on v (Outcome.Line l) records at h = refl
+wrote-on : (v : Scene) (o : Report) (records at : ℕ) → goesOn o ≡ true → reportStep o v ≡ wrote (lineOf o records at) v
+wrote-on v Report.End records at h = absurd (false≢true h)
+wrote-on v (Report.Bad f) records at h = absurd (false≢true h)
+wrote-on v (Report.Refused k) records at h = absurd (false≢true h)
+wrote-on v (Report.Line l) records at h = refl
 
 one-record : (s : List ℕ) (k : ℕ) (w : Scene) → linesFrom s (suc k) w ≡ textBy (step s w) w (linesFrom s k)
 unfolding linesFrom
@@ -69,7 +69,7 @@ begin s out ps ns cs {c} q f =
         good = rw (first c ps ns cs f) record {
           small = q .small;
           within = omega arith;
-          turns = omega arith;
+          counted = omega arith;
           few = omega arith;
           used-given = omega arith;
           given-most = omega arith;
@@ -90,26 +90,26 @@ begin s out ps ns cs {c} q f =
 
 module _ {s out₀ : List ℕ} {ps₀ ns₀ : List Float} {cs₀ : List ℕ} {c : Notes} {written : ℕ} {ps ns : List Float} {cs out : List ℕ} (g : Going s out₀ ps₀ ns₀ cs₀ c written ps ns cs out)
     (r : Stepped) (ps′ ns′ : List Float) (cs′ : List ℕ) (e : toldStep r ps′ ns′ cs′ ≡ step s (view c ps ns cs))
-    {line : Line} (el : line ≡ lineOf (r .outcome) (c .records) (c .at))
+    {line : Line} (el : line ≡ lineOf (r .report) (c .records) (c .at))
     {out′ : List ℕ} {next : ℕ} (w : Wrote out written (lineText line) out′ next) where
   text : linesFrom s (length s + 1 - c .records) (view c ps ns cs) ≡ textBy (toldStep r ps′ ns′ cs′) (view c ps ns cs) (linesFrom s (length s + 1 - suc (c .records)))
   text =
-      ap (λ (k : ℕ). linesFrom s k (view c ps ns cs)) (left (length s + 1) (c .records) (omega (arith, g .ready .good .turns, g .ready .good .within)))
+      ap (λ (k : ℕ). linesFrom s k (view c ps ns cs)) (left (length s + 1) (c .records) (omega (arith, g .ready .good .counted, g .ready .good .within)))
       ∙ one-record s (length s + 1 - suc (c .records)) (view c ps ns cs)
       ∙ ap (λ (x : Step). textBy x (view c ps ns cs) (linesFrom s (length s + 1 - suc (c .records)))) (sym e)
 
-  pub ends : {b : Bool} → b ≡ goesOn (r .outcome) → b ≡ false → Wrote out₀ 0 (linesOf s ps₀ ns₀ cs₀) out′ next
-  ends p z = g .goes out′ next (rw (text ∙ text-stop (view (r .next) ps′ ns′ cs′) (view c ps ns cs) (linesFrom s (length s + 1 - suc (c .records))) (r .outcome) (sym p ∙ z)) (rw el at w))
+  pub ends : {b : Bool} → b ≡ goesOn (r .report) → b ≡ false → Wrote out₀ 0 (linesOf s ps₀ ns₀ cs₀) out′ next
+  ends p z = g .goes out′ next (rw (text ∙ text-stop (view (r .next) ps′ ns′ cs′) (view c ps ns cs) (linesFrom s (length s + 1 - suc (c .records))) (r .report) (sym p ∙ z)) (rw el at w))
 
-  module _ {b : Bool} (p : b ≡ goesOn (r .outcome)) (z : b ≡ true) where
-    pub after : Onward s (lineOf (r .outcome) (c .records) (c .at)) (view c ps ns cs) (view (r .next) ps′ ns′ cs′)
-    after = onward (g .ready .good) (sym e ∙ wrote-on (view (r .next) ps′ ns′ cs′) (r .outcome) (c .records) (c .at) (sym p ∙ z))
+  module _ {b : Bool} (p : b ≡ goesOn (r .report)) (z : b ≡ true) where
+    pub after : Onward s (lineOf (r .report) (c .records) (c .at)) (view c ps ns cs) (view (r .next) ps′ ns′ cs′)
+    after = onward (g .ready .good) (sym e ∙ wrote-on (view (r .next) ps′ ns′ cs′) (r .report) (c .records) (c .at) (sym p ∙ z))
 
     module _ (k : Kept (r .next)) (m : next ≤ written + roomOf line) (q : length out′ ≡ length out) (qp : length ps′ ≡ length ps) (qn : length ns′ ≡ length ns) (qc : length cs′ ≡ length cs) where
       onto : (o : List ℕ) (d : ℕ) → Wrote out′ next (linesFrom s (length s + 1 - r .next .records) (view (r .next) ps′ ns′ cs′)) o d → Wrote out₀ 0 (linesOf s ps₀ ns₀ cs₀) o d
       onto o d h =
           let n : length s + 1 - r .next .records ≡ (length s + 1 - suc (c .records)) = omega (arith, after .one-more) in
-          g .goes o d (rw (text ∙ text-on (view (r .next) ps′ ns′ cs′) (view c ps ns cs) (linesFrom s (length s + 1 - suc (c .records))) (r .outcome) (sym p ∙ z)) (then (rw el at w) (rw n at h)))
+          g .goes o d (rw (text ∙ text-on (view (r .next) ps′ ns′ cs′) (view c ps ns cs) (linesFrom s (length s + 1 - suc (c .records))) (r .report) (sym p ∙ z)) (then (rw el at w) (rw n at h)))
 
       pub on : Going s out₀ ps₀ ns₀ cs₀ (r .next) next ps′ ns′ cs′ out′
       on = record {

@@ -6,4 +6,4 @@ use Rattle.scene_words.specs.Words.{Wrote}
 use Rattle.scene_run.specs.Run.{sceneText}
 
 pub run-unique : (s out : List ℕ) {o o′ : List ℕ} {r r′ : ℕ} → Wrote out 0 (sceneText s) o r → Wrote out 0 (sceneText s) o′ r′ → (o ≡ o′) × (r ≡ r′)
-run-unique s out v w = (v .text-there ∙ sym (w .text-there), v .next-place ∙ sym (w .next-place))
+run-unique s out v w = (v .text-there ∙ sym (w .text-there), v .next-offset ∙ sym (w .next-offset))

@@ -10,8 +10,8 @@ use Rattle.scene_lines.specs.declared.Line.{Line}
 use Rattle.scene_lines.specs.declared.Line.the-variants as Line
 use Rattle.scene_lines.specs.Lines.{lineText, endLine, refusedLine}
 use Rattle.scene_records.specs.declared.Fault.{Fault}
-use Rattle.scene_steps.specs.declared.Outcome.{Outcome}
-use Rattle.scene_steps.specs.declared.Outcome.the-variants as Outcome
+use Rattle.scene_steps.specs.declared.Report.{Report}
+use Rattle.scene_steps.specs.declared.Report.the-variants as Report
 use Rattle.scene_notes.specs.Noted.{Scene}
 use Rattle.scene_steps.specs.Steps.{Step, step, Sized, ended, faulty, refused, wrote}
 
@@ -49,18 +49,18 @@ linesOf s ps ns cs = linesFrom s (length s + 1) (starting ps ns cs)
 unfoldable pub sceneText : List ℕ → List ℕ
 sceneText s = cond (ltb 65536 (length s)) (refusedLine 10 0) (linesOf s blankFloats blankFloats blankCodes)
 
--- the line that an outcome prints, and whether the scene goes on after it
-abbrev pub lineOf : Outcome → ℕ → ℕ → Line
-lineOf Outcome.End records at = Line.End records
-lineOf (Outcome.Bad f) records at = Line.Refused (faultNumber f) at
-lineOf (Outcome.Refused k) records at = Line.Refused k at
-lineOf (Outcome.Line line) records at = line
+-- the line that an report prints, and whether the scene goes on after it
+abbrev pub lineOf : Report → ℕ → ℕ → Line
+lineOf Report.End records at = Line.End records
+lineOf (Report.Bad f) records at = Line.Refused (faultNumber f) at
+lineOf (Report.Refused k) records at = Line.Refused k at
+lineOf (Report.Line line) records at = line
 
-abbrev pub goesOn : Outcome → Bool
-goesOn Outcome.End = false
-goesOn (Outcome.Bad f) = false
-goesOn (Outcome.Refused k) = false
-goesOn (Outcome.Line line) = true
+abbrev pub goesOn : Report → Bool
+goesOn Report.End = false
+goesOn (Report.Bad f) = false
+goesOn (Report.Refused k) = false
+goesOn (Report.Line line) = true
 
 -- room for the longest text: three bytes for each byte read, 21 more for each of 16 areas, and the last line
 pub record Running (s : List ℕ) (positions normals classes out : ℕ) : Type 0 where

@@ -5,28 +5,28 @@ ghost use lib.ListN.{length};
 ghost use Rattle.scene_words.specs.Words.{Wrote};
 ghost use Rattle.scene_run.specs.Run as Sc;
 use scene_lines::Line;
-use scene_steps::Outcome;
+use scene_steps::Report;
 
-// The line of an outcome. Each fault is refusal 10 today.
-fn line_of(outcome: Outcome, records: usize, at: usize) -> Line
-    ensures { λ r. ⌜ r ≡ Sc.lineOf outcome records at ⌝ }
+// The line of an report. Each fault is refusal 10 today.
+fn line_of(report: Report, records: usize, at: usize) -> Line
+    ensures { λ r. ⌜ r ≡ Sc.lineOf report records at ⌝ }
 {
-    match outcome {
-        Outcome::End => Line::End(records),
-        Outcome::Bad(_) => Line::Refused(10, at),
-        Outcome::Refused(k) => Line::Refused(k, at),
-        Outcome::Line(line) => line,
+    match report {
+        Report::End => Line::End(records),
+        Report::Bad(_) => Line::Refused(10, at),
+        Report::Refused(k) => Line::Refused(k, at),
+        Report::Line(line) => line,
     }
 }
 
-fn goes_on(outcome: Outcome) -> bool
-    ensures { λ r. ⌜ r ≡ Sc.goesOn outcome ⌝ }
+fn goes_on(report: Report) -> bool
+    ensures { λ r. ⌜ r ≡ Sc.goesOn report ⌝ }
 {
-    match outcome {
-        Outcome::End => false,
-        Outcome::Bad(_) => false,
-        Outcome::Refused(_) => false,
-        Outcome::Line(_) => true,
+    match report {
+        Report::End => false,
+        Report::Bad(_) => false,
+        Report::Refused(_) => false,
+        Report::Line(_) => true,
     }
 }
 
@@ -46,9 +46,9 @@ fn run_in(
     let mut written = 0;
     loop {
         let r = scene_steps::step(s, c, positions, normals, classes);
-        let outcome = r.outcome;
-        written = scene_lines::put_line(out, written, line_of(outcome, c.records, c.at));
-        if !goes_on(outcome) {
+        let report = r.report;
+        written = scene_lines::put_line(out, written, line_of(report, c.records, c.at));
+        if !goes_on(report) {
             return written;
         }
         c = r.next;

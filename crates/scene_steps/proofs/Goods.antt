@@ -36,7 +36,7 @@ pub record Onward (s : List ℕ) (l : Line) (w v : Scene) : Type 0 where
   pub spare : roomOf l + 3 * w .at + 21 * length (w .areas) ≤ 3 * v .at + 21 * length (v .areas)
   pub one-more : v .records ≡ w .records + 1
 
--- an area's end, at each place
+-- an area's end, at each index
 abbrev end : List Area → ℕ → ℕ
 end areas i = getD areas i nobody .start + getD areas i nobody .header .count
 
@@ -55,7 +55,7 @@ module _ {s : List ℕ} {w : Scene} (g : Good s w) where
     good = record {
       small = g .small;
       within = k;
-      turns = omega (arith, g .turns);
+      counted = omega (arith, g .counted);
       few = g .few;
       used-given = g .used-given;
       given-most = g .given-most;
@@ -91,8 +91,8 @@ module _ {s : List ℕ} {w : Scene} (g : Good s w) where
           good = record {
             small = g .small;
             within = omega (arith, h);
-            turns = omega (arith, g .turns);
-            few = simp length-append (omega (arith, m .place));
+            counted = omega (arith, g .counted);
+            few = simp length-append (omega (arith, m .room));
             used-given = omega (arith, g .used-given, c);
             given-most = m .few;
             inside = one-more-end (w .areas) a (w .used) (k .count) (g .inside) (omega arith);
@@ -115,7 +115,7 @@ module _ {s : List ℕ} {w : Scene} (g : Good s w) where
     by-read : (r : Read) → w .at + sizeOf r ≤ length s → stepBy r s w ≡ wrote l v → Onward s l w v
     unfolding areaStep placeStep pairStep
     by-read Read.End h e = absurd (let z : _≡_ {A = ℕ} 0 1 = cc in omega arith)
-    by-read (Read.Bad f place) h e = absurd (let z : _≡_ {A = ℕ} 0 1 = cc in omega arith)
+    by-read (Read.Bad f room) h e = absurd (let z : _≡_ {A = ℕ} 0 1 = cc in omega arith)
     by-read (Read.Area number count) h e = judged-on number count h (judgeArea (w .areas) (w .given) number count) refl e
     by-read (Read.Place number) h e = place-on (placeIn (met w number) (w .positions) (w .normals) (w .classes) (vecOf s (w .at + 8))) number h (either (isMet w number) _ e)
     by-read (Read.Pair number other) h e = pair-on (pairIn (met w number) (met w other) (w .positions) (w .normals) (w .classes)) number other h (either (isMet w other) _ (either (isMet w number) _ e))

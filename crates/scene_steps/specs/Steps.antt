@@ -4,11 +4,10 @@ use mathlib.Core.Path.{_≡_}
 use mathlib.Core.Bool.{Bool, cond}
 use mathlib.Core.List.{List, [], _∷_, _++_}
 use lib.ListN.{length, getD}
-use lib.Dec.{ltb, leb, eqb}
+use lib.Dec.{ltb}
 use lib.Ieee.{Float}
 use Rattle.wire.specs.Wire.{vecOf}
-use Rattle.loop_header.specs.declared.Header.{Header}
-use Rattle.loop_build.specs.Build.{Out}
+use Rattle.loop_build.specs.Build.{Outcome}
 use Rattle.loop_build.specs.Build as B
 use Rattle.loop_ask.specs.Answers.{Told}
 use Rattle.loop_ask.specs.Answers as Ask
@@ -24,8 +23,8 @@ use Rattle.scene_notes.specs.declared.Notes.{Notes}
 use Rattle.scene_notes.specs.declared.Judged.{Judged}
 use Rattle.scene_notes.specs.declared.Judged.the-variants.{Fine, Bad}
 use Rattle.scene_steps.specs.declared.Stepped.{Stepped}
-use Rattle.scene_steps.specs.declared.Outcome.{Outcome}
-use Rattle.scene_steps.specs.declared.Outcome.the-variants as Outcome
+use Rattle.scene_steps.specs.declared.Report.{Report}
+use Rattle.scene_steps.specs.declared.Report.the-variants as Report
 use Rattle.scene_notes.specs.Noted.{Scene, indexOf, Kept, view, areaAt, judgeArea}
 use Rattle.scene_store.specs.Store.{nobody, builtAt, triangleCount, placeIn, pairIn}
 
@@ -51,7 +50,7 @@ passedBy size w = record {
 
 -- ---- kind 1
 -- the scene with one area more
-abbrev pub withArea : Scene → Area → ℕ → Out → Scene
+abbrev pub withArea : Scene → Area → ℕ → Outcome → Scene
 withArea w a count o = record {
   at = w .at + 8 + 24 * count;
   records = w .records + 1;
@@ -64,11 +63,11 @@ withArea w a count o = record {
 }
 
 -- "each area's ring goes into the still unused rest of one lent store"
-abbrev pub areaTold : Scene → ℕ → ℕ → Out → B.Told → Step
+abbrev pub areaTold : Scene → ℕ → ℕ → Outcome → B.Told → Step
 areaTold w number count o (B.refused k) = refused k
 areaTold w number count o (B.loop h) = wrote (Line.Area number h (triangleCount (areaAt (w .used) number h) (o .positions) (o .classes))) (withArea w (areaAt (w .used) number h) count o)
 
-abbrev pub areaOut : List ℕ → Scene → ℕ → Out
+abbrev pub areaOut : List ℕ → Scene → ℕ → Outcome
 areaOut s w count = builtAt (floatsAt s (w .at + 8) count) (w .used) (w .positions) (w .normals) (w .classes)
 
 unfoldable pub areaMade : List ℕ → Scene → ℕ → ℕ → Step
@@ -124,30 +123,30 @@ step s w = stepBy (readAt s (w .at)) s w
 pub record Good (s : List ℕ) (w : Scene) : Type 0 where
   pub small : length s ≤ 65536
   pub within : w .at ≤ length s
-  pub turns : w .records ≤ w .at
+  pub counted : w .records ≤ w .at
   pub few : length (w .areas) ≤ 16
   pub used-given : w .used ≤ w .given
   pub given-most : w .given ≤ 1024
   pub inside : (i : ℕ) → i < length (w .areas) → getD (w .areas) i nobody .start + getD (w .areas) i nobody .header .count ≤ w .used
 
 -- the program's answer to a record, with the store as it left it
-abbrev pub outcomeStep : Outcome → Scene → Step
-outcomeStep Outcome.End w = ended
-outcomeStep (Outcome.Bad f) w = faulty f
-outcomeStep (Outcome.Refused k) w = refused k
-outcomeStep (Outcome.Line line) w = wrote line w
+abbrev pub reportStep : Report → Scene → Step
+reportStep Report.End w = ended
+reportStep (Report.Bad f) w = faulty f
+reportStep (Report.Refused k) w = refused k
+reportStep (Report.Line line) w = wrote line w
 
 abbrev pub toldStep : Stepped → List Float → List Float → List ℕ → Step
-toldStep r ps ns cs = outcomeStep (r .outcome) (view (r .next) ps ns cs)
+toldStep r ps ns cs = reportStep (r .report) (view (r .next) ps ns cs)
 
--- an answer told, as the program's outcome
-abbrev pub placeOutcome : Told → ℕ → Outcome
-placeOutcome (Ask.refused k) number = Outcome.Refused k
-placeOutcome (Ask.answer n) number = Outcome.Line (Line.Place number n)
+-- an answer told, as the program's report
+abbrev pub placeReport : Told → ℕ → Report
+placeReport (Ask.refused k) number = Report.Refused k
+placeReport (Ask.answer n) number = Report.Line (Line.Place number n)
 
-abbrev pub pairOutcome : Told → ℕ → ℕ → Outcome
-pairOutcome (Ask.refused k) number other = Outcome.Refused k
-pairOutcome (Ask.answer n) number other = Outcome.Line (Line.Pair number other n)
+abbrev pub pairReport : Told → ℕ → ℕ → Report
+pairReport (Ask.refused k) number other = Report.Refused k
+pairReport (Ask.answer n) number other = Report.Line (Line.Pair number other n)
 
 -- the store has 1,024 corners
 pub record Sized (positions normals classes : ℕ) : Type 0 where

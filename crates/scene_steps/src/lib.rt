@@ -1,7 +1,6 @@
 // A scene's records taken one by one: what is known between two records, and what each comes to.
 ghost use mathlib.Core.Path.{_≡_};
-ghost use Prim.Native.Nat.{_+_, _*_, _≤_, _<_};
-ghost use lib.ListN.{length, getD};
+ghost use Prim.Native.Nat.{_+_, _*_};
 ghost use Rattle.loop_ask.specs.Answers.{toldPlaced};
 ghost use Rattle.loop_relate.specs.Relations.{toldRelated};
 ghost use Rattle.scene_store.specs.Store as St;
@@ -19,7 +18,7 @@ use scene_records::Read;
 use scene_store::Area;
 
 // What a record comes to: there is none, its fault, a call's own refusal, or its line.
-pub enum Outcome {
+pub enum Report {
     End,
     Bad(Fault),
     Refused(u8),
@@ -28,7 +27,7 @@ pub enum Outcome {
 
 // The same with the notes after it, which stand beside it since they hold an array.
 pub struct Stepped {
-    pub outcome: Outcome,
+    pub report: Report,
     pub next: Notes,
 }
 
@@ -43,7 +42,7 @@ fn area_line(
     classes: &[u8],
 ) -> Stepped
     requires { ⌜ St.Lies (N.areaAt (c .used) number h) (now positions) (now normals) (now classes) × N.Addable c (N.areaAt (c .used) number h) count ⌝ }
-    ensures { λ r. ⌜ r ≡ record { outcome = Outcome.Line (Line.Area number h (St.triangleCount (N.areaAt (c .used) number h) (now (positions .entry)) (now (classes .entry)))); next = N.addedNotes c (N.areaAt (c .used) number h) count } ⌝ }
+    ensures { λ r. ⌜ r ≡ record { report = Report.Line (Line.Area number h (St.triangleCount (N.areaAt (c .used) number h) (now (positions .entry)) (now (classes .entry)))); next = N.addedNotes c (N.areaAt (c .used) number h) count } ⌝ }
 {
     let a = Area {
         number,
@@ -52,7 +51,7 @@ fn area_line(
     };
     let triangles = scene_store::triangle_count(a, positions, normals, classes);
     Stepped {
-        outcome: Outcome::Line(Line::Area(number, h, triangles)),
+        report: Report::Line(Line::Area(number, h, triangles)),
         next: scene_notes::added(c, a, count),
     }
 }
@@ -73,7 +72,7 @@ fn area_made(
 {
     match scene_store::build_area(s, c.at + 8, count, c.used, positions, normals, classes) {
         Built::Refused(k) => Stepped {
-            outcome: Outcome::Refused(k),
+            report: Report::Refused(k),
             next: c,
         },
         Built::Loop(h) => area_line(c, number, count, h, positions, normals, classes),
@@ -95,7 +94,7 @@ fn area_step(
 {
     match scene_notes::judge_area(c, number, count) {
         Judged::Bad(f) => Stepped {
-            outcome: Outcome::Bad(f),
+            report: Report::Bad(f),
             next: c,
         },
         Judged::Fine => area_made(s, c, number, count, positions, normals, classes),
@@ -103,14 +102,14 @@ fn area_step(
 }
 
 // The line of a place, by its answer's number.
-fn place_told(p: Placed, number: usize) -> Outcome
-    ensures { λ r. ⌜ r ≡ S.placeOutcome (toldPlaced p) number ⌝ }
+fn place_told(p: Placed, number: usize) -> Report
+    ensures { λ r. ⌜ r ≡ S.placeReport (toldPlaced p) number ⌝ }
 {
     match p {
-        Placed::Refused(k) => Outcome::Refused(k),
-        Placed::Outside => Outcome::Line(Line::Place(number, 0)),
-        Placed::Inside => Outcome::Line(Line::Place(number, 1)),
-        Placed::Mute => Outcome::Line(Line::Place(number, 2)),
+        Placed::Refused(k) => Report::Refused(k),
+        Placed::Outside => Report::Line(Line::Place(number, 0)),
+        Placed::Inside => Report::Line(Line::Place(number, 1)),
+        Placed::Mute => Report::Line(Line::Place(number, 2)),
     }
 }
 
@@ -129,7 +128,7 @@ fn place_step(
     let i = scene_notes::index_of(c, number);
     if c.met <= i {
         return Stepped {
-            outcome: Outcome::Bad(Fault::NotMet),
+            report: Report::Bad(Fault::NotMet),
             next: c,
         };
     }
@@ -137,23 +136,23 @@ fn place_step(
     let p = wire::vec_at(s, c.at + 8);
     let placed = scene_store::place_in(a, positions, normals, classes, p);
     Stepped {
-        outcome: place_told(placed, number),
+        report: place_told(placed, number),
         next: scene_notes::passed(c, 32),
     }
 }
 
 // The line of a pair, by its relation's number.
-fn pair_told(p: Related, number: usize, other: usize) -> Outcome
-    ensures { λ r. ⌜ r ≡ S.pairOutcome (toldRelated p) number other ⌝ }
+fn pair_told(p: Related, number: usize, other: usize) -> Report
+    ensures { λ r. ⌜ r ≡ S.pairReport (toldRelated p) number other ⌝ }
 {
     match p {
-        Related::Refused(k) => Outcome::Refused(k),
-        Related::Disjoint => Outcome::Line(Line::Pair(number, other, 0)),
-        Related::Touching => Outcome::Line(Line::Pair(number, other, 1)),
-        Related::Intersecting => Outcome::Line(Line::Pair(number, other, 2)),
-        Related::Containing => Outcome::Line(Line::Pair(number, other, 3)),
-        Related::Within => Outcome::Line(Line::Pair(number, other, 4)),
-        Related::Equal => Outcome::Line(Line::Pair(number, other, 5)),
+        Related::Refused(k) => Report::Refused(k),
+        Related::Disjoint => Report::Line(Line::Pair(number, other, 0)),
+        Related::Touching => Report::Line(Line::Pair(number, other, 1)),
+        Related::Intersecting => Report::Line(Line::Pair(number, other, 2)),
+        Related::Containing => Report::Line(Line::Pair(number, other, 3)),
+        Related::Within => Report::Line(Line::Pair(number, other, 4)),
+        Related::Equal => Report::Line(Line::Pair(number, other, 5)),
     }
 }
 
@@ -173,14 +172,14 @@ fn pair_step(
     let i = scene_notes::index_of(c, number);
     if c.met <= i {
         return Stepped {
-            outcome: Outcome::Bad(Fault::NotMet),
+            report: Report::Bad(Fault::NotMet),
             next: c,
         };
     }
     let j = scene_notes::index_of(c, other);
     if c.met <= j {
         return Stepped {
-            outcome: Outcome::Bad(Fault::NotMet),
+            report: Report::Bad(Fault::NotMet),
             next: c,
         };
     }
@@ -188,7 +187,7 @@ fn pair_step(
     let b = scene_notes::area_of(c, j);
     let related = scene_store::pair_in(a, b, positions, normals, classes);
     Stepped {
-        outcome: pair_told(related, number, other),
+        report: pair_told(related, number, other),
         next: scene_notes::passed(c, 10),
     }
 }
@@ -207,11 +206,11 @@ pub fn step(
 {
     match scene_records::read_at(s, c.at) {
         Read::End => Stepped {
-            outcome: Outcome::End,
+            report: Report::End,
             next: c,
         },
         Read::Bad(f, _) => Stepped {
-            outcome: Outcome::Bad(f),
+            report: Report::Bad(f),
             next: c,
         },
         Read::Area(number, count) => { area_step(s, c, number, count, positions, normals, classes) }

@@ -14,7 +14,7 @@ use Rattle.ring_corners.specs.Corners.{reversal, classesOf, allBoth}
 use Rattle.ring_corners.proofs.Openings.{opened-le}
 use Rattle.loop_header.specs.declared.Header.{Header}
 use Rattle.loop_header.specs.Loops.{emptyHeader, fullHeader}
-use Rattle.loop_build.specs.Build.{loop, openedCount, refusal, ringHeader, made, madeIf, out, outBy, outIf}
+use Rattle.loop_build.specs.Build.{loop, openedCount, refusal, ringHeader, made, madeIf, buildOutcome, outcomeBy, outcomeIf}
 use Rattle.scene_records.specs.Records.{oneFloat, floatsAt}
 use Rattle.scene_store.specs.Store.{builtAt}
 
@@ -31,17 +31,17 @@ module _ (l ps ns : List Float) (cs : List ℕ) {h : Header} where
   of-made true n r g e = omega (arith, same-header {a = h} {b = fullHeader (weak (turnSum l n))} e)
   of-made false n r g e = omega (arith, same-header {a = h} {b = ringHeader l n r} e)
 
-  of-if : (b : Bool) (n : ℕ) → n ≤ length l / 3 → loop h ≡ outIf b l n ps ns cs .answer → h .count ≤ length l / 3
+  of-if : (b : Bool) (n : ℕ) → n ≤ length l / 3 → loop h ≡ outcomeIf b l n ps ns cs .answer → h .count ≤ length l / 3
   unfolding made
   of-if true n g e = omega (arith, same-header {a = h} {b = emptyHeader} e)
   of-if false n g e = of-made (allBoth (classesOf l n (reversal l n))) n (reversal l n) g e
 
-  of-refusal : (k : ℕ) → loop h ≡ outBy k l ps ns cs .answer → h .count ≤ length l / 3
+  of-refusal : (k : ℕ) → loop h ≡ outcomeBy k l ps ns cs .answer → h .count ≤ length l / 3
   of-refusal zero e = of-if (ltb (openedCount l) 3) (openedCount l) (opened-le l (length l / 3)) e
   of-refusal (suc k) e = absurd (let z : _≡_ {A = ℕ} 0 1 = cc in omega arith)
 
-  pub count-le : loop h ≡ out l ps ns cs .answer → h .count ≤ length l / 3
-  unfolding out
+  pub count-le : loop h ≡ buildOutcome l ps ns cs .answer → h .count ≤ length l / 3
+  unfolding buildOutcome
   count-le e = of-refusal (refusal l ps ns cs) e
 
 pub built-count : (s : List ℕ) (at n used : ℕ) (ps ns : List Float) (cs : List ℕ) {h : Header} → loop h ≡ builtAt (floatsAt s at n) used ps ns cs .answer → h .count ≤ n

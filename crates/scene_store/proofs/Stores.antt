@@ -7,11 +7,11 @@ use lib.ListN.{length, take, drop}
 use lib.Ieee.{Float}
 use Rattle.laws.proofs.Rests.{rest, back}
 use Rattle.vec3.specs.declared.Vec3.{Vec3}
-use Rattle.loop_build.specs.Build.{out}
+use Rattle.loop_build.specs.Build.{buildOutcome}
 use Rattle.loop_build.specs.Build as B
 use Rattle.loop_ask.specs.Answers.{Told}
 use Rattle.loop_ask.specs.Questions.{placeAnswer}
-use Rattle.loop_triangles.specs.Triangles.{cutOut}
+use Rattle.loop_triangles.specs.Triangles.{triangulateOutcome}
 use Rattle.loop_triangles.specs.Triangles as Cut
 use Rattle.loop_relate.specs.Relations.{relateAnswer}
 use Rattle.scene_store.specs.declared.Area.{Area}
@@ -41,13 +41,13 @@ module _ (ps ns : List Float) (cs : List ℕ) {t : Told} where
   paired a b e = rw (three (a .start) (a .header .count), one (a .start) (a .header .count), three (b .start) (b .header .count), one (b .start) (b .header .count)) at e
 
 -- an area cut
-pub cut : {t : Told} {l : List ℕ} {r : ℕ} (a : Area) (ps : List Float) (cs b : List ℕ) → record { answer = t; triangles = l } ≡ cutOut (a .header) (threes a ps) (ones a cs) b → b ≡ blank → r ≡ counted t → r ≡ triangleCount a ps cs
+pub cut : {t : Told} {l : List ℕ} {r : ℕ} (a : Area) (ps : List Float) (cs b : List ℕ) → record { answer = t; triangles = l } ≡ triangulateOutcome (a .header) (threes a ps) (ones a cs) b → b ≡ blank → r ≡ counted t → r ≡ triangleCount a ps cs
 unfolding triangleCount
-cut a ps cs b e q h = h ∙ ap (λ (o : Cut.Out). counted (o .answer)) (rw (three (a .start) (a .header .count), one (a .start) (a .header .count), q) at e)
+cut a ps cs b e q h = h ∙ ap (λ (o : Cut.Outcome). counted (o .answer)) (rw (three (a .start) (a .header .count), one (a .start) (a .header .count), q) at e)
 
 -- what a build left in the rest
 pub built : {l : List Float} {a : B.Told} {ps′ ns′ : List Float} {cs′ : List ℕ} (f : List Float) (used : ℕ) (ps ns : List Float) (cs : List ℕ) → l ≡ f
-    → record { answer = a; positions = ps′; normals = ns′; classes = cs′ } ≡ out l (take (length ps - 3 * used) (drop (3 * used) ps)) (take (length ns - 3 * used) (drop (3 * used) ns)) (take (length cs - used) (drop used cs))
+    → record { answer = a; positions = ps′; normals = ns′; classes = cs′ } ≡ buildOutcome l (take (length ps - 3 * used) (drop (3 * used) ps)) (take (length ns - 3 * used) (drop (3 * used) ns)) (take (length cs - used) (drop used cs))
     → record {
       answer = a;
       positions = take (3 * used) ps ++ (ps′ ++ drop (length ps - 3 * used) (drop (3 * used) ps));

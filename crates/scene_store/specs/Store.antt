@@ -6,10 +6,10 @@ use lib.ListN.{length, take, drop, replicate}
 use lib.Ieee.{Float}
 use Rattle.vec3.specs.declared.Vec3.{Vec3}
 use Rattle.loop_header.specs.Loops.{emptyHeader}
-use Rattle.loop_build.specs.Build.{Out, out}
+use Rattle.loop_build.specs.Build.{Outcome, buildOutcome}
 use Rattle.loop_ask.specs.Answers.{Told, refused, answer}
 use Rattle.loop_ask.specs.Questions.{placeAnswer}
-use Rattle.loop_triangles.specs.Triangles.{cutOut}
+use Rattle.loop_triangles.specs.Triangles.{triangulateOutcome}
 use Rattle.loop_relate.specs.Relations.{relateAnswer}
 use Rattle.scene_store.specs.declared.Area.{Area}
 
@@ -25,7 +25,7 @@ abbrev pub codes : Area → List ℕ → List ℕ
 codes a l = take (a .header .count) (drop (a .start) l)
 
 -- a list built into the unused rest of the store, which stands after what is used
-abbrev pub after : ℕ → List Float → List Float → List ℕ → Out → Out
+abbrev pub after : ℕ → List Float → List Float → List ℕ → Outcome → Outcome
 after used ps ns cs o = record {
   answer = o .answer;
   positions = take (3 * used) ps ++ o .positions;
@@ -33,8 +33,8 @@ after used ps ns cs o = record {
   classes = take used cs ++ o .classes;
 }
 
-unfoldable pub builtAt : List Float → ℕ → List Float → List Float → List ℕ → Out
-builtAt l used ps ns cs = after used ps ns cs (out l (drop (3 * used) ps) (drop (3 * used) ns) (drop used cs))
+unfoldable pub builtAt : List Float → ℕ → List Float → List Float → List ℕ → Outcome
+builtAt l used ps ns cs = after used ps ns cs (buildOutcome l (drop (3 * used) ps) (drop (3 * used) ns) (drop used cs))
 
 -- room for the triangles of any area
 unfoldable pub blank : List ℕ
@@ -46,7 +46,7 @@ counted (refused k) = 0
 counted (answer n) = n
 
 unfoldable pub triangleCount : Area → List Float → List ℕ → ℕ
-triangleCount a ps cs = counted (cutOut (a .header) (corners a ps) (codes a cs) blank .answer)
+triangleCount a ps cs = counted (triangulateOutcome (a .header) (corners a ps) (codes a cs) blank .answer)
 
 unfoldable pub placeIn : Area → List Float → List Float → List ℕ → Vec3 → Told
 placeIn a ps ns cs p = placeAnswer (a .header) (corners a ps) (corners a ns) (codes a cs) p

@@ -1,6 +1,6 @@
 // Areas in one lent store: each ring goes into its still unused rest, and each question is asked of an area's own part.
 ghost use mathlib.Core.Path.{_≡_};
-ghost use Prim.Native.Nat.{_+_, _*_, _≤_, _<_};
+ghost use Prim.Native.Nat.{_+_, _*_, _≤_};
 ghost use lib.ListN.{length};
 ghost use Rattle.loop_build.specs.Build as B;
 ghost use Rattle.loop_ask.specs.Answers.{toldPlaced};

@@ -1,6 +1,6 @@
 -- Texts written one after the other, and a word byte by byte. Assumes nothing.
 use Prim.Native.Nat.{ℕ, _+_, _≤_, _<_}
-use mathlib.Core.Path.{_≡_, refl, sym, ap, _∙_}
+use mathlib.Core.Path.{_≡_, refl, sym}
 use mathlib.Core.List.{List, [], _∷_, _++_}
 use native.Mathlib.Nat.{add-zero}
 use native.Mathlib.Numerals.{add-one}
@@ -12,13 +12,13 @@ use Rattle.scene_words.specs.Words.{Wrote}
 
 -- nothing is written
 pub nothing : {o : List ℕ} {at : ℕ} → Wrote o at [] o at
-nothing = record { text-there = refl; next-place = rw add-zero }
+nothing = record { text-there = refl; next-offset = rw add-zero }
 
 -- one text after the other
 pub then : {o o′ o″ a b : List ℕ} {at r r′ : ℕ} → Wrote o at a o′ r → Wrote o′ r b o″ r′ → Wrote o at (a ++ b) o″ r′
 then {o} {a = a} {b = b} {at = at} {r = r} u v = record {
-  text-there = rw (v .text-there, u .text-there) (sets-sets o a b at r (sym (u .next-place)));
-  next-place = rw length-append (omega (arith, u .next-place, v .next-place));
+  text-there = rw (v .text-there, u .text-there) (sets-sets o a b at r (sym (u .next-offset)));
+  next-offset = rw length-append (omega (arith, u .next-offset, v .next-offset));
 }
 
 -- the invariant of a loop that copies a word: its first i bytes are there
@@ -39,4 +39,4 @@ module _ {o₀ : List ℕ} {at : ℕ} {w : List ℕ} {i : ℕ} {o : List ℕ} (l
   }
 
   pub copied-end : length w ≤ i → Wrote o₀ at w o (at + length w)
-  copied-end h = record { text-there = rw (take-all i w h) at (l .so-far); next-place = refl }
+  copied-end h = record { text-there = rw (take-all i w h) at (l .so-far); next-offset = refl }

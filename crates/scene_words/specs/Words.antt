@@ -47,7 +47,7 @@ relationWord k =
     cond (eqb k 0) (bytes " disjoint\n")
     (cond (eqb k 1) (bytes " touching\n") (cond (eqb k 2) (bytes " intersecting\n") (laterWord k)))
 
--- a text is written at a place of a lent slice, and `next` is the place after it
+-- a text is written at an offset of a lent slice, and `next` is the offset after it
 pub record Wrote (before : List ℕ) (at : ℕ) (text after : List ℕ) (next : ℕ) : Type 0 where
   pub text-there : after ≡ sets before at text
-  pub next-place : next ≡ at + length text
+  pub next-offset : next ≡ at + length text

@@ -1,5 +1,4 @@
-// The words and numbers of a scene's lines, written into a lent slice of bytes from a place on. Each function answers the place after its text.
-ghost use mathlib.Core.Path.{_≡_};
+// The words and numbers of a scene's lines, written into a lent slice of bytes from an offset on. Each function answers the offset after its text.
 ghost use mathlib.Core.List.{[], _∷_};
 ghost use Prim.Native.Nat.{_+_, _≤_, _<_};
 ghost use lib.ListN.{length};

@@ -7,7 +7,7 @@ ghost use Rattle.ring_cut.specs.Cut.{Ring};
 ghost use Rattle.test_cuts.specs.Bytes.{Bytes};
 use libc::STDIN_FILENO;
 use libc::STDOUT_FILENO;
-use ring_cut::Insides;
+use vec3::Insides;
 use vec3::Vec3;
 
 fn print(text: &[u8]) {
@@ -136,13 +136,13 @@ fn answer_one() -> bool {
     answer(n)
 }
 
-// The loop counts its turns down, since nothing says that an input ends.
+// The loop counts its iterations down, since nothing says that an input ends.
 fn main() {
-    let mut turns = 10000u64;
-    while turns > 0 {
+    let mut iterations = 10000u64;
+    while iterations > 0 {
         if !answer_one() {
             return;
         }
-        turns -= 1;
+        iterations -= 1;
     }
 }

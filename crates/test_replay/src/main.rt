@@ -1,6 +1,5 @@
 // Replays recorded answers of the Rust: each record of the file that the first argument names is put to the port's exports, and how many agree is printed.
 // `host record` writes the file; its format stands at the top of oracle/host/src/record.rs.
-ghost use mathlib.Core.Path.{_≡_};
 ghost use Prim.Native.Nat.{_+_, _≤_, _<_};
 ghost use lib.ListN.{length};
 use exports::floats;
@@ -205,19 +204,19 @@ fn counted(came: u8, agreed: u64) -> u64
     if came == AGREED { agreed + 1 } else { agreed }
 }
 
-// The loop counts its turns down, since nothing says that a file ends.
+// The loop counts its iterations down, since nothing says that a file ends.
 fn replay_all(fd: i32) {
-    let mut turns = 1000000u64;
+    let mut iterations = 1000000u64;
     let mut agreed = 0u64;
     let mut all = 0u64;
-    while turns > 0 {
+    while iterations > 0 {
         let came = replay_one(fd);
         if came == ENDED {
             break;
         }
         agreed = counted(came, agreed);
         all += 1;
-        turns -= 1;
+        iterations -= 1;
     }
     print(agreed, all);
 }

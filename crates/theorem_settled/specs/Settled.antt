@@ -16,21 +16,21 @@ use Rattle.loop_header.specs.declared.Header.{Header}
 use Rattle.loop_header.specs.declared.State.{State}
 use Rattle.loop_header.specs.declared.State.the-variants.{Ring}
 use Rattle.loop_header.specs.Loops.{emptyHeader, fullHeader}
-use Rattle.loop_build.specs.Build.{Told, refused, loop, Out, out, kept}
+use Rattle.loop_build.specs.Build.{Told, refused, loop, Outcome, buildOutcome, kept}
 use Rattle.loop_ask.specs.Answers as Answers
 use Rattle.loop_triangles.specs.Triangles as Triangles
-use Rattle.loop_triangles.specs.Triangles.{cutOut, acceptsAnswer}
+use Rattle.loop_triangles.specs.Triangles.{triangulateOutcome, acceptsAnswer}
 use Rattle.loop_relate.specs.Relations.{relateAnswer}
 
 -- 0.6, 0.8, -0.6 and 2^-537
-abbrev pub six : Float
-six = ofBits binary64 0x3fe3_3333_3333_3333
+abbrev pub six-tenths : Float
+six-tenths = ofBits binary64 0x3fe3_3333_3333_3333
 
-abbrev pub eight : Float
-eight = ofBits binary64 0x3fe9_9999_9999_999a
+abbrev pub eight-tenths : Float
+eight-tenths = ofBits binary64 0x3fe9_9999_9999_999a
 
-abbrev pub minus-six : Float
-minus-six = ofBits binary64 0xbfe3_3333_3333_3333
+abbrev pub minus-six-tenths : Float
+minus-six-tenths = ofBits binary64 0xbfe3_3333_3333_3333
 
 abbrev pub least : Float
 least = ofBits binary64 1
@@ -52,10 +52,10 @@ abbrev pub area-1 : List Float
 area-1 = coords axis-x ++ coords axis-y ++ coords axis-z
 
 abbrev pub flat-list : List Float
-flat-list = coords axis-x ++ coords (at six eight zero) ++ coords axis-y
+flat-list = coords axis-x ++ coords (at six-tenths eight-tenths zero) ++ coords axis-y
 
 abbrev pub four-corners : List Float
-four-corners = coords (at six zero eight) ++ coords (at zero six eight) ++ coords (at minus-six zero eight) ++ coords (at zero minus-six eight)
+four-corners = coords (at six-tenths zero eight-tenths) ++ coords (at zero six-tenths eight-tenths) ++ coords (at minus-six-tenths zero eight-tenths) ++ coords (at zero minus-six-tenths eight-tenths)
 
 abbrev pub blank : ℕ → List Float
 blank n = replicate (3 * n) zero
@@ -63,8 +63,8 @@ blank n = replicate (3 * n) zero
 abbrev pub blank-classes : ℕ → List ℕ
 blank-classes n = replicate n 2
 
-abbrev pub built : List Float → ℕ → Out
-built l n = out l (blank n) (blank n) (blank-classes n)
+abbrev pub built : List Float → ℕ → Outcome
+built l n = buildOutcome l (blank n) (blank n) (blank-classes n)
 
 -- the header of a loop that was built
 abbrev pub headerOf : Told → Header
@@ -83,15 +83,15 @@ pub record Seen : Type 0 where
 abbrev pub seenWith : Header → List Float → List ℕ → Seen
 seenWith h ps cs = record { state = h .state; count = h .count; reversed = h .reversed; weak = h .weak; corners = ps; classes = cs }
 
-abbrev pub seen : Out → Seen
+abbrev pub seen : Outcome → Seen
 seen o = seenWith (headerOf (o .answer)) (o .positions) (o .classes)
 
 -- the loop of four corners as built, cut and checked
-abbrev pub four-built : Out
+abbrev pub four-built : Outcome
 four-built = built four-corners 4
 
-abbrev pub four-cut : Triangles.Out
-four-cut = cutOut (headerOf (four-built .answer)) (four-built .positions) (four-built .classes) (replicate 6 0)
+abbrev pub four-cut : Triangles.Outcome
+four-cut = triangulateOutcome (headerOf (four-built .answer)) (four-built .positions) (four-built .classes) (replicate 6 0)
 
 abbrev pub four-checked : List ℕ → Answers.Told
 four-checked tris = acceptsAnswer (headerOf (four-built .answer)) (four-built .positions) (four-built .classes) tris
@@ -121,7 +121,7 @@ pub record Settled : Type 0 where
   -- "X, (0.6,0.8,0), Y is FULL", its slices as they were
   pub full : built flat-list 3 ≡ kept (loop (fullHeader false)) (blank 3) (blank 3) (blank-classes 3)
   -- "(0.6,0,0.8), (0,0.6,0.8), (-0.6,0,0.8), (0,-0.6,0.8) is reversed", and all its corners are convex
-  pub four-ring : seen four-built ≡ record { state = Ring; count = 4; reversed = true; weak = false; corners = coords (at zero minus-six eight) ++ coords (at minus-six zero eight) ++ coords (at zero six eight) ++ coords (at six zero eight); classes = 0 ∷ 0 ∷ 0 ∷ 0 ∷ [] }
+  pub four-ring : seen four-built ≡ record { state = Ring; count = 4; reversed = true; weak = false; corners = coords (at zero minus-six-tenths eight-tenths) ++ coords (at minus-six-tenths zero eight-tenths) ++ coords (at zero six-tenths eight-tenths) ++ coords (at six-tenths zero eight-tenths); classes = 0 ∷ 0 ∷ 0 ∷ 0 ∷ [] }
   -- "and cut into (3,0,1), (1,2,3)"
   pub four-triangles : four-cut ≡ record { answer = Answers.answer 2; triangles = 3 ∷ 0 ∷ 1 ∷ 1 ∷ 2 ∷ 3 ∷ [] }
   -- "while the checker also accepts (0,1,2), (0,2,3) and rejects (0,1,3), (1,2,3)"

@@ -92,10 +92,10 @@ one-relation = by-back toldRelated backRelated related-back
 -- with what is lent at exit
 one-built : OneToOne toldBuild
 one-built x y e =
-    let a = told-apart (x .answer) (y .answer) (ap (λ (o : Build.Out). o .answer) e) in
-    let p = ap (λ (o : Build.Out). o .positions) e in
-    let n = ap (λ (o : Build.Out). o .normals) e in
-    let c = ap (λ (o : Build.Out). o .classes) e in
+    let a = told-apart (x .answer) (y .answer) (ap (λ (o : Build.Outcome). o .answer) e) in
+    let p = ap (λ (o : Build.Outcome). o .positions) e in
+    let n = ap (λ (o : Build.Outcome). o .normals) e in
+    let c = ap (λ (o : Build.Outcome). o .classes) e in
     same (x .answer) (y .answer) a (x .positions) (y .positions) p (x .normals) (y .normals) n (x .classes) (y .classes) c
   where
     same : (a b : Built) → a ≡ b → (ps qs : List Float) → ps ≡ qs → (ns ms : List Float) → ns ≡ ms → (cs ds : List ℕ) → cs ≡ ds
@@ -104,8 +104,8 @@ one-built x y e =
 
 one-end : OneToOne toldEnd
 one-end x y e =
-    let a = one-cut (x .answer) (y .answer) (ap (λ (o : Triangles.Out). o .answer) e) in
-    let t = ap (λ (o : Triangles.Out). o .triangles) e in
+    let a = one-cut (x .answer) (y .answer) (ap (λ (o : Triangles.Outcome). o .answer) e) in
+    let t = ap (λ (o : Triangles.Outcome). o .triangles) e in
     same (x .answer) (y .answer) a (x .triangles) (y .triangles) t
   where
     same : (a b : Cut) → a ≡ b → (ts us : List ℕ) → ts ≡ us → _≡_ {A = CutEnd} (record { answer = a; triangles = ts }) (record { answer = b; triangles = us })

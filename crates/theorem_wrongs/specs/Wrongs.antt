@@ -2,25 +2,20 @@
 
 use Prim.Native.Nat.{ℕ}
 use mathlib.Core.Path.{_≡_}
-use mathlib.Core.List.{List, [], _∷_}
-use lib.Ieee.{Float, binary64, ofBits}
-use Rattle.numbers.specs.F64.{zero}
+use mathlib.Core.List.{[], _∷_}
+use lib.Ieee.{binary64, ofBits}
 use Rattle.vec3.specs.declared.Vec3.{Vec3}
-use Rattle.vec3.specs.Vec.{axis-x, axis-y, axis-z}
-use Rattle.base.specs.declared.Side.{Side}
-use Rattle.base.specs.declared.Side.the-variants.{Left, Right, Collinear}
-use Rattle.base.specs.Sides.{sideOf}
-use Rattle.loop_build.specs.Build.{refused, Out}
-use Rattle.loop_ask.specs.Answers as Answers
+use Rattle.vec3.specs.Vec.{axis-x}
+use Rattle.loop_build.specs.Build.{refused, Outcome}
 use Rattle.loop_ask.specs.Answers.{Told, answer}
 use Rattle.loop_ask.specs.Questions.{placeAnswer}
-use Rattle.theorem_settled.specs.Settled.{at, built, area-1, headerOf, four-cut, four-checked, full-one, empty-one, related, blank}
+use Rattle.theorem_settled.specs.Settled.{at, built, area-1, headerOf, four-cut, four-checked, full-one, empty-one, related}
 
 -- document 01's place in area 1: (0.48, 0.6, 0.64)
 abbrev pub in-area-1 : Vec3
 in-area-1 = at (ofBits binary64 0x3fde_b851_eb85_1eb8) (ofBits binary64 0x3fe3_3333_3333_3333) (ofBits binary64 0x3fe4_7ae1_47ae_147b)
 
-abbrev pub placed : Out → Vec3 → Told
+abbrev pub placed : Outcome → Vec3 → Told
 placed o p = placeAnswer (headerOf (o .answer)) (o .positions) (o .normals) (o .classes) p
 
 pub record Wrongs : Type 0 where

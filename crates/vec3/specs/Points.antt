@@ -1,5 +1,5 @@
 -- Points that may be absent. Definitions only.
-use mathlib.Core.Bool.{Bool, _||_}
+use mathlib.Core.Bool.{_||_}
 use Rattle.numbers.specs.Choice.{if_then_else_}
 use Rattle.numbers.specs.F64.{_⊕_}
 use Rattle.vec3.specs.declared.Vec3.{Vec3}
@@ -16,5 +16,5 @@ abbrev pub sumUnit : Vec3 → Vec3 → Vec3
 sumUnit a b = unitVec (a .x ⊕ b .x) (a .y ⊕ b .y) (a .z ⊕ b .z)
 
 -- document 01: "the unit vector of start plus end stands in (added), with no midpoint where the ends are antipodes or that vector is zero"
-unfoldable pub middle : Vec3 → Vec3 → Point
-middle a b = if antipodes a b || same (sumUnit a b) origin then Absent else At (sumUnit a b)
+unfoldable pub midpoint : Vec3 → Vec3 → Point
+midpoint a b = if antipodes a b || same (sumUnit a b) origin then Absent else At (sumUnit a b)

@@ -5,7 +5,7 @@ ghost use Prim.Native.Nat.{_+_, _*_, _<_};
 ghost use lib.ListN.{length};
 ghost use lib.Seq.{sets};
 ghost use Rattle.vec3.specs.Vec.{vec, cleared, same, dot, product, cross, plus, minus, opposite, times, unitVec, unit, crossUnit, stableCross, stableUnit, axisFor, orthogonal, orthogonalTo, antipodes, mean3, posAt, rawAt, coords};
-ghost use Rattle.vec3.specs.Points.{triangleMean, middle};
+ghost use Rattle.vec3.specs.Points.{triangleMean, midpoint};
 ghost use Rattle.root.specs.Root.{rootOf};
 
 pub struct Vec3 {
@@ -18,6 +18,12 @@ pub struct Vec3 {
 pub enum Point {
     Absent,
     At(Vec3),
+}
+
+// Two positions inside a ring, or none.
+pub enum Insides {
+    Absent,
+    Two(Vec3, Vec3),
 }
 
 // The axis that `orthogonal` crosses with, by the sizes of the components: one that is away from the largest.
@@ -251,7 +257,7 @@ impl Vec3 {
 
     // The midpoint that stands in for the source's, which needs a sine: the unit vector of the sum, unless the two are antipodes or it is zero.
     pub fn midpoint(self, o: Vec3) -> Point
-        ensures { λ r. ⌜ r ≡ middle self o ⌝ }
+        ensures { λ r. ⌜ r ≡ midpoint self o ⌝ }
     {
         let m = Vec3::new_unit(self.x + o.x, self.y + o.y, self.z + o.z);
         if self.is_antipode_of(o) | m.equals(Vec3::ZERO) {

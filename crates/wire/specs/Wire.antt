@@ -6,7 +6,7 @@ use lib.Ieee.{Float, binary64, ofBits, toBits}
 use Rattle.vec3.specs.declared.Vec3.{Vec3}
 use Rattle.vec3.specs.Vec.{vec}
 
--- the number at a place
+-- the number at an offset
 abbrev pub u16Of : List ℕ → ℕ → ℕ
 u16Of s at = getD s at 0 + 256 * getD s (at + 1) 0
 

@@ -65,7 +65,7 @@ pub fn float_at(s: &[u8], at: usize) -> f64
     of_bits(u64_at(s, at))
 }
 
-// The position or normal at a place, free of -0.0.
+// The position or normal at an offset, free of -0.0.
 pub fn vec_at(s: &[u8], at: usize) -> Vec3
     requires { ⌜ at + 24 ≤ length (now s) ⌝ }
     ensures { λ r. ⌜ r ≡ vecOf (now (s .entry)) at ⌝ }

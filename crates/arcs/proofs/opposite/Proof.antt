@@ -10,7 +10,7 @@ opposite-spec =
     (tie.spec
     (λ c κs. tt) (λ c κs. tt)
     (λ c. let q = c .before in
-    judged-hit _ (simp (q .before .read .ensures) at (q .arc-fault .ensures)) (c .if1 .taken))
+    judged-hit _ (simp (q .before .clear-arc .ensures) at (q .arc-fault .ensures)) (c .if1 .taken))
     (λ c κs. tt)
     (λ c. let q = c .before .before in
-    judged-none _ (simp (q .before .read .ensures) at (q .arc-fault .ensures)) (c .before .if1 .left) (simp (c .opposite .ensures, q .before .read .ensures))))
+    judged-none _ (simp (q .before .clear-arc .ensures) at (q .arc-fault .ensures)) (c .before .if1 .left) (simp (c .opposite .ensures, q .before .clear-arc .ensures))))

@@ -9,4 +9,4 @@ is-surely-right-spec =
     tie.close
     (tie.spec
     (λ c κs. search needs) (λ c κs. search needs)
-    (λ c. simp (c .is-right .ensures, c .before .dot-prod .ensures)))
+    (λ c. simp (c .settles-right .ensures, c .before .dot-prod .ensures)))

@@ -7,4 +7,4 @@ ends-judged-spec =
     tie.close
     (tie.spec
     (λ c κs. search needs) (λ c κs. search needs) (λ c κs. search needs)
-    (λ c. simp (c .first .ensures, c .before .length-fault2 .ensures, c .before .before .length-fault .ensures)))
+    (λ c. simp (c .first .ensures, c .before .size-fault2 .ensures, c .before .before .size-fault .ensures)))

@@ -7,4 +7,4 @@ next-judged-spec =
     tie.close
     (tie.spec
     (λ c κs. search needs) (λ c κs. search needs) (λ c κs. search needs)
-    (λ c. simp (c .first .ensures, c .before .length-fault .ensures, c .before .before .arc-judged .ensures)))
+    (λ c. simp (c .first .ensures, c .before .size-fault .ensures, c .before .before .arc-judged .ensures)))

@@ -1,6 +1,5 @@
 use native.Mathlib.Omega.{arith}
 use mathlib.Core.Path.{sym, _∙_}
-use Rattle.loop_ask.specs.Answers.{judged}
 use Rattle.bytes_loop.proofs.Faults.{header-size}
 use Rattle.bytes_ask.proofs.Calls.{gone-number, went-number}
 use borrow.Author.Needs.{needs}

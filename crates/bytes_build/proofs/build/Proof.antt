@@ -1,5 +1,5 @@
 use native.Mathlib.Omega.{arith}
-use mathlib.Core.Path.{sym, _∙_}
+use mathlib.Core.Path.{sym}
 use Rattle.numbers.specs.F64 as F
 use Rattle.laws.proofs.Copies.{first-of}
 use Rattle.bytes_build.proofs.Builds.{unread, too-long, in-bytes, roomy, given-size}

@@ -1,4 +1,3 @@
-use native.Mathlib.Omega.{arith}
 use Rattle.bytes_build.proofs.Builds.{was-refused, was-written, fitting}
 use borrow.Author.Needs.{needs}
 use Rattle.bytes_build.proofs.build_from.Statement.{statement}

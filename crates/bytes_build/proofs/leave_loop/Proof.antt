@@ -1,15 +1,15 @@
 use native.Mathlib.Omega.{arith}
-use borrow.Author.Tests.{eq-eqb, ne-eqb, lt-ltb, le-ltb}
+use borrow.Author.Tests.{lt-ltb}
 use mathlib.Core.Path.{sym}
 use lib.Seq.{length-take-le}
 use Rattle.bytes_build.proofs.Builds.{stored}
-use Rattle.bytes_build.specs.Build.{loopLeft}
+use Rattle.bytes_build.specs.Build.{loopOutcome}
 use borrow.Author.Needs.{needs}
 use Rattle.bytes_build.proofs.leave_loop.Statement.{statement}
 use Rattle.bytes_build.proofs.leave_loop.Tie as tie
 
 pub leave-loop-spec : {M : Type 1} → statement M
-unfolding loopLeft
+unfolding loopOutcome
 leave-loop-spec =
     tie.close
     (tie.spec

@@ -1,5 +1,5 @@
 use native.Mathlib.Omega.{arith}
-use borrow.Author.Tests.{eq-eqb, ne-eqb, lt-ltb, le-ltb}
+use borrow.Author.Tests.{lt-ltb, le-ltb}
 use Rattle.bytes_build.specs.Build.{roomOf}
 use Rattle.bytes_build.proofs.room_of.Statement.{statement}
 use Rattle.bytes_build.proofs.room_of.Tie as tie

@@ -1,5 +1,5 @@
 use native.Mathlib.Omega.{arith}
-use mathlib.Core.Path.{sym, refl, _∙_}
+use mathlib.Core.Path.{sym, refl}
 use Rattle.laws.proofs.Copies.{first-of}
 use Rattle.bytes_cut.proofs.Slices.{parts-refused, few, no-room, roomy, front-blank, triples-size}
 use borrow.Author.Needs.{needs}

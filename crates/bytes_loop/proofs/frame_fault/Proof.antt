@@ -1,5 +1,5 @@
 use native.Mathlib.Omega.{arith}
-use borrow.Author.Tests.{eq-eqb, ne-eqb, lt-ltb, le-ltb}
+use borrow.Author.Tests.{lt-ltb, le-ltb}
 use Rattle.bytes_loop.proofs.Faults.{frame-wrong, frame-state}
 use Rattle.bytes_loop.specs.Layout.{stateFault}
 use borrow.Author.Needs.{needs}

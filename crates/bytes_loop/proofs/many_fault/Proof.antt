@@ -1,4 +1,4 @@
-use borrow.Author.Tests.{eq-eqb, ne-eqb, lt-ltb, le-ltb}
+use borrow.Author.Tests.{lt-ltb, le-ltb}
 use Rattle.bytes_loop.specs.Layout.{manyFault}
 use borrow.Author.Needs.{needs}
 use Rattle.bytes_loop.proofs.many_fault.Statement.{statement}

@@ -1,6 +1,5 @@
 use native.Mathlib.Omega.{arith}
 use Rattle.bytes_loop.specs.Layout.{markIf}
-use borrow.Author.Needs.{needs}
 use Rattle.bytes_loop.proofs.mark_if.Statement.{statement}
 use Rattle.bytes_loop.proofs.mark_if.Tie as tie
 

@@ -1,4 +1,4 @@
-use Rattle.bytes_loop.proofs.Lays.{Lay, lay, lay-on, lay-end, copy-laid}
+use Rattle.bytes_loop.proofs.Lays.{Lay, lay, lay-on, copy-laid}
 use lib.ListN.{length}
 use mathlib.Core.Path.{refl}
 use Prim.Native.Nat.{_-_}

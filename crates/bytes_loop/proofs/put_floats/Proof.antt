@@ -1,6 +1,5 @@
-use Rattle.bytes_loop.proofs.Lays.{Lay, lay, lay-on, lay-end, copy-laid}
+use Rattle.bytes_loop.proofs.Lays.{Lay, lay, lay-on, lay-end}
 use lib.ListN.{length}
-use mathlib.Core.Path.{refl}
 use Prim.Native.Nat.{_-_}
 use native.Mathlib.Omega.{arith}
 use Rattle.wire.proofs.Bytes.{eight}

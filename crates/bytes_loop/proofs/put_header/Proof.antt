@@ -1,6 +1,5 @@
 use native.Mathlib.Omega.{arith}
 use mathlib.Core.Path.{refl}
-use Rattle.wire.specs.Wire.{floatBytes, vecBytes}
 use Rattle.wire.proofs.Bytes.{three, eight}
 use lib.ListN.{length-append}
 use Rattle.bytes_loop.specs.Layout.{stateCode, marksOf, frontBytes, capBytes, insidesBytes, headerBytes}

@@ -1,5 +1,5 @@
 use native.Mathlib.Nat.{zero-add}
-use Rattle.bytes_loop.proofs.Lays.{Lay, lay, lay-on, lay-end, copy-laid}
+use Rattle.bytes_loop.proofs.Lays.{Lay, lay, lay-on, lay-end}
 use lib.ListN.{length}
 use mathlib.Core.Path.{refl}
 use Prim.Native.Nat.{_-_}

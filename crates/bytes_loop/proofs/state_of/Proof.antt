@@ -1,6 +1,5 @@
-use borrow.Author.Tests.{eq-eqb, ne-eqb, lt-ltb, le-ltb}
+use borrow.Author.Tests.{eq-eqb, ne-eqb}
 use Rattle.bytes_loop.specs.Layout.{stateOf}
-use borrow.Author.Needs.{needs}
 use Rattle.bytes_loop.proofs.state_of.Statement.{statement}
 use Rattle.bytes_loop.proofs.state_of.Tie as tie
 

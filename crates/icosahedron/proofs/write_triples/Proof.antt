@@ -1,10 +1,8 @@
 use native.Mathlib.Omega.{arith}
 use borrow.Author.Needs.{needs}
-use Rattle.icosahedron.proofs.Rules.{triples-size}
 use Rattle.icosahedron.specs.Table.{triples}
 use Rattle.laws.proofs.Copies.{one, copy-end}
 use Rattle.laws.proofs.Blocks.{Fill, fill, fill-on-one}
-use lib.ListN.{length}
 use mathlib.Core.Path.{refl}
 use Prim.Native.Nat.{_-_}
 use Rattle.icosahedron.proofs.write_triples.Statement.{statement}

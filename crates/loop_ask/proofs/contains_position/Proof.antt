@@ -1,5 +1,5 @@
 use native.Mathlib.Omega.{arith}
-use mathlib.Core.Path.{sym, _∙_}
+use mathlib.Core.Path.{_∙_}
 use Rattle.loop_ask.proofs.Judged.{was-refused, was-fine, query-sizes}
 use Rattle.loop_ask.specs.Questions.{placeAnswer}
 use borrow.Author.Needs.{needs}

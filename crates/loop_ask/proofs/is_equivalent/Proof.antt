@@ -1,4 +1,4 @@
-use mathlib.Core.Path.{sym, _∙_}
+use mathlib.Core.Path.{_∙_}
 use Rattle.loop_ask.proofs.Judged.{was-refused, was-fine, comparable}
 use Rattle.loop_ask.specs.Questions.{equivalentAnswer}
 use borrow.Author.Needs.{needs}

@@ -1,4 +1,4 @@
-use mathlib.Core.Path.{sym, _∙_}
+use mathlib.Core.Path.{_∙_}
 use borrow.Author.Needs.{needs}
 use Rattle.loop_ask.proofs.place.Statement.{statement}
 use Rattle.loop_ask.proofs.place.Tie as tie

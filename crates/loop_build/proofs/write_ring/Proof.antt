@@ -1,5 +1,5 @@
 use native.Mathlib.Omega.{arith}
-use mathlib.Core.Path.{sym, _∙_}
+use mathlib.Core.Path.{sym}
 use Rattle.loop_build.proofs.Writes.{codes-size, front-size, is-ring, all-written}
 use borrow.Author.Needs.{needs}
 use Rattle.loop_build.proofs.write_ring.Statement.{statement}

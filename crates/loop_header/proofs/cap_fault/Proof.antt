@@ -2,7 +2,6 @@ use Rattle.loop_header.specs.Loops.{capFault}
 use borrow.Author.Needs.{needs}
 use Rattle.loop_header.proofs.cap_fault.Statement.{statement}
 use Rattle.loop_header.proofs.cap_fault.Tie as tie
-use Rattle.numbers.proofs.is_finite.Reads as is-finite-reads′
 
 pub cap-fault-spec : {M : Type 1} → statement M
 unfolding capFault

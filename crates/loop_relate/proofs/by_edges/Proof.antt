@@ -1,4 +1,4 @@
-use mathlib.Core.Path.{sym, _∙_}
+use mathlib.Core.Path.{_∙_}
 use Rattle.loop_relate.specs.Relations.{byEdges}
 use borrow.Author.Needs.{needs}
 use Rattle.loop_relate.proofs.by_edges.Statement.{statement}

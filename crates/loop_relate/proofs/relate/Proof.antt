@@ -1,6 +1,6 @@
 use Rattle.loop_relate.proofs.Sizes.{sized}
 use Rattle.loop_ask.proofs.Judged.{was-refused, was-fine, comparable}
-use mathlib.Core.Path.{sym, _∙_}
+use mathlib.Core.Path.{_∙_}
 use Rattle.loop_relate.specs.Relations.{relateAnswer}
 use borrow.Author.Needs.{needs}
 use Rattle.loop_relate.proofs.relate.Statement.{statement}

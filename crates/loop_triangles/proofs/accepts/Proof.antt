@@ -1,4 +1,4 @@
-use mathlib.Core.Path.{refl, sym, _∙_}
+use mathlib.Core.Path.{_∙_}
 use Rattle.loop_triangles.proofs.Outs.{check-ring}
 use Rattle.loop_ask.proofs.Judged as J
 use Rattle.loop_triangles.specs.Triangles.{acceptsAnswer}

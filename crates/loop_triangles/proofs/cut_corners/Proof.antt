@@ -1,12 +1,12 @@
 use borrow.Author.Tests.{lt-ltb, le-ltb}
 use Rattle.loop_triangles.proofs.Outs.{all-cut, none-cut}
-use Rattle.loop_triangles.specs.Triangles.{ringOut}
+use Rattle.loop_triangles.specs.Triangles.{ringOutcome}
 use borrow.Author.Needs.{needs}
 use Rattle.loop_triangles.proofs.cut_corners.Statement.{statement}
 use Rattle.loop_triangles.proofs.cut_corners.Tie as tie
 
 pub cut-corners-spec : {M : Type 1} → statement M
-unfolding ringOut
+unfolding ringOutcome
 cut-corners-spec =
     tie.close
     (tie.spec

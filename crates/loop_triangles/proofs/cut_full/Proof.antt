@@ -1,11 +1,11 @@
 use borrow.Author.Tests.{lt-ltb, le-ltb}
-use Rattle.loop_triangles.specs.Triangles.{fullOut}
+use Rattle.loop_triangles.specs.Triangles.{fullOutcome}
 use borrow.Author.Needs.{needs}
 use Rattle.loop_triangles.proofs.cut_full.Statement.{statement}
 use Rattle.loop_triangles.proofs.cut_full.Tie as tie
 
 pub cut-full-spec : {M : Type 1} → statement M
-unfolding fullOut
+unfolding fullOutcome
 cut-full-spec =
     tie.close
     (tie.spec

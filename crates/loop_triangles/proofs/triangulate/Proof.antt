@@ -1,12 +1,12 @@
-use mathlib.Core.Path.{refl, sym, _∙_}
+use mathlib.Core.Path.{_∙_}
 use Rattle.loop_triangles.proofs.Outs.{was-refused, was-fine, cut-ring}
-use Rattle.loop_triangles.specs.Triangles.{cutOut}
+use Rattle.loop_triangles.specs.Triangles.{triangulateOutcome}
 use borrow.Author.Needs.{needs}
 use Rattle.loop_triangles.proofs.triangulate.Statement.{statement}
 use Rattle.loop_triangles.proofs.triangulate.Tie as tie
 
 pub triangulate-spec : {M : Type 1} → statement M
-unfolding cutOut
+unfolding triangulateOutcome
 triangulate-spec =
     tie.close
     (tie.spec

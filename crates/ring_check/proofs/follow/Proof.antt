@@ -1,7 +1,7 @@
 use native.Mathlib.Omega.{arith}
 use borrow.Author.Needs.{needs}
 use mathlib.Core.Path.{refl}
-use Rattle.ring_check.proofs.Followings.{Following, begin, at-most, off, place, cut, finish}
+use Rattle.ring_check.proofs.Followings.{Following, begin, at-most, off, index, cut, finish}
 use Rattle.ring_check.proofs.follow.Statement.{statement}
 use Rattle.ring_check.proofs.follow.Tie as tie
 
@@ -22,17 +22,17 @@ follow-spec =
     (λ c κs. let g = c .before .before .loop .inv in (g .held .lent .few, omega (arith, g .size, g .count)))
     (λ c. search needs)
     (λ c. omega arith)
-    (λ c κs. let g = c .before .before .before .before .before .loop .inv in (g .held .lent, at-most g (c .before .before .place-at .ensures), omega (arith, g .size, g .count)))
+    (λ c κs. let g = c .before .before .before .before .before .loop .inv in (g .held .lent, at-most g (c .before .before .index-at .ensures), omega (arith, g .size, g .count)))
     (λ c. search needs)
     (λ c. search needs)
-    (λ c. off (c .before .before .before .before .before .before .before .loop .inv) (c .before .before .before .before .before .before .loop-test .taken) (c .before .before .before .before .place-at .ensures) (c .before .is-named .ensures) (c .if1 .taken))
+    (λ c. off (c .before .before .before .before .before .before .before .loop .inv) (c .before .before .before .before .before .before .loop-test .taken) (c .before .before .before .before .index-at .ensures) (c .before .is-named .ensures) (c .if1 .taken))
     (λ c. search needs)
     (λ c. omega arith)
-    (λ c κs. let g = c .before .before .before .before .before .before .before .before .before .loop .inv in (g .held .lent, place g (c .before .before .before .before .before .before .before .before .loop-test .taken) (c .before .before .before .before .before .before .place-at .ensures) (c .before .before .before .is-named .ensures) (c .before .before .if1 .left)))
+    (λ c κs. let g = c .before .before .before .before .before .before .before .before .before .loop .inv in (g .held .lent, index g (c .before .before .before .before .before .before .before .before .loop-test .taken) (c .before .before .before .before .before .before .index-at .ensures) (c .before .before .before .is-named .ensures) (c .before .before .if1 .left)))
     (λ c. search needs)
     (λ c. search needs)
     (λ c. search needs)
-    (λ c. cut (c .before .before .before .before .before .before .before .before .before .before .before .before .before .before .loop .inv) (c .before .before .before .before .before .before .before .before .before .before .before .before .before .loop-test .taken) (c .before .before .before .before .before .before .before .before .before .before .before .place-at .ensures) (c .before .before .before .before .before .before .before .before .is-named .ensures) (c .before .before .before .before .before .before .before .if1 .left) refl (c .before .before .before .before .cut-one .ensures) (c .before .before .before .before .cut-one .kept .1 .0) (c .before .before .before .before .cut-one .kept .1 .1 .0))
+    (λ c. cut (c .before .before .before .before .before .before .before .before .before .before .before .before .before .before .loop .inv) (c .before .before .before .before .before .before .before .before .before .before .before .before .before .loop-test .taken) (c .before .before .before .before .before .before .before .before .before .before .before .index-at .ensures) (c .before .before .before .before .before .before .before .before .is-named .ensures) (c .before .before .before .before .before .before .before .if1 .left) refl (c .before .before .before .before .cut-one .ensures) (c .before .before .before .before .cut-one .kept .1 .0) (c .before .before .before .before .cut-one .kept .1 .1 .0))
     (λ c. search needs)
     (λ c. omega arith)
     (λ c κs. let g = c .before .before .loop .inv in (omega (arith, g .held .sized, g .held .least), omega (arith, g .size, g .count, g .held .least)))

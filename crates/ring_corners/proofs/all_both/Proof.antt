@@ -5,8 +5,7 @@ use lib.ListN.{length}
 use borrow.Author.Tests.{eq-eqb, ne-eqb}
 use Rattle.laws.proofs.Loops.{Any, any, any-on, any-hit, any-end}
 use Rattle.laws.specs.Loop.{anyOf}
-use mathlib.Core.Bool.{Bool, not}
-use mathlib.Core.Path.{_≡_, refl, sym, ap}
+use mathlib.Core.Path.{refl}
 use Prim.Native.Nat.{_-_}
 use Rattle.ring_corners.proofs.all_both.Statement.{statement}
 use Rattle.ring_corners.proofs.all_both.Tie as tie

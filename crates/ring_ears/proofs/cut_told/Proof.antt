@@ -2,7 +2,7 @@ use native.Mathlib.Omega.{arith}
 use mathlib.Core.Path.{sym}
 use lib.Seq.{length-take-le}
 use Rattle.ring_theory.proofs.Withouts.{taken}
-use Rattle.ring_ears.proofs.Places.{lent-without}
+use Rattle.ring_ears.proofs.Indexes.{lent-without}
 use borrow.Author.Needs.{needs}
 use Rattle.ring_ears.proofs.cut_told.Statement.{statement}
 use Rattle.ring_ears.proofs.cut_told.Tie as tie

@@ -1,14 +1,14 @@
 use native.Mathlib.Omega.{arith}
 use borrow.Author.Tests.{lt-ltb, le-ltb}
-use Rattle.ring_ears.proofs.Places.{relent, previous-wrapped}
-use Rattle.ring_ears.specs.Ears.{recut}
-use Rattle.ring_ears.specs.Changes.{returned}
+use Rattle.ring_ears.proofs.Indexes.{relent, previous-wrapped}
+use Rattle.ring_ears.specs.Ears.{reclassifyBoth}
+use Rattle.ring_ears.specs.Changes.{oneChanged}
 use borrow.Author.Needs.{needs}
 use Rattle.ring_ears.proofs.reclassify_both.Statement.{statement}
 use Rattle.ring_ears.proofs.reclassify_both.Tie as tie
 
 pub reclassify-both-spec : {M : Type 1} → statement M
-unfolding recut returned
+unfolding reclassifyBoth oneChanged
 reclassify-both-spec =
     tie.close
     (tie.spec

@@ -2,7 +2,7 @@ use native.Mathlib.Omega.{arith}
 use borrow.Author.Needs.{needs}
 use Rattle.ring_theory.specs.Ring.{without}
 use Rattle.laws.proofs.Shifts.{shift, shifted}
-use Rattle.laws.proofs.Loops.{Turn, turn-from, turn-on, turn-end}
+use Rattle.laws.proofs.Loops.{Iterate, iterate-from, iterate-on, iterate-end}
 use lib.ListN.{length, drop, length-set}
 use mathlib.Core.List.{_++_}
 use mathlib.Core.Path.{_≡_, refl, sym}
@@ -11,7 +11,7 @@ use Rattle.ring_ears.proofs.remove_at.Statement.{statement}
 use Rattle.ring_ears.proofs.remove_at.Tie as tie
 
 abbrev Inv-loop : tie.InvT-loop
-Inv-loop ids₀ i j₀ j-end ids j = (length ids ≡ length ids₀) × Turn (shift 0) (length ids₀ - 1) j ids (without i ids₀ ++ drop (length ids₀ - 1) ids₀)
+Inv-loop ids₀ i j₀ j-end ids j = (length ids ≡ length ids₀) × Iterate (shift 0) (length ids₀ - 1) j ids (without i ids₀ ++ drop (length ids₀ - 1) ids₀)
 
 abbrev μ-loop : tie.MeasureT-loop
 μ-loop ids₀ i j₀ j-end ids j = length ids₀ - j
@@ -22,7 +22,7 @@ remove-at-spec =
     (tie.spec
     Inv-loop μ-loop
     (λ c. search needs)
-    (λ c. (refl, turn-from (omega arith) (sym (shifted 0 _ _ _ (omega arith) (omega arith)))))
+    (λ c. (refl, iterate-from (omega arith) (sym (shifted 0 _ _ _ (omega arith) (omega arith)))))
     (λ c. search needs)
     (λ c. search needs)
     (λ c. search needs)
@@ -30,6 +30,6 @@ remove-at-spec =
     (λ c. search needs)
     (λ c. search needs)
     (λ c. search needs)
-    (λ c. (simp length-set (c .before .before .loop .inv .0), turn-on (c .before .before .loop .inv .1) refl (search needs)))
+    (λ c. (simp length-set (c .before .before .loop .inv .0), iterate-on (c .before .before .loop .inv .1) refl (search needs)))
     (λ c. search needs)
-    (λ c. turn-end (c .before .loop .inv .1) (search needs)))
+    (λ c. iterate-end (c .before .loop .inv .1) (search needs)))

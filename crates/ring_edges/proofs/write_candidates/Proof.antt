@@ -1,5 +1,4 @@
 use borrow.Author.Needs.{needs}
-use mathlib.Core.Path.{_∙_}
 use Rattle.ring_edges.proofs.Arrays.{units-of}
 use Rattle.ring_edges.proofs.write_candidates.Statement.{statement}
 use Rattle.ring_edges.proofs.write_candidates.Tie as tie

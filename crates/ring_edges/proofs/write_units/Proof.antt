@@ -4,7 +4,7 @@ use Rattle.laws.proofs.Blocks.{Fill, fill, fill-on, fill-all}
 use Rattle.vec3.specs.Vec.{coords}
 use lib.ListN.{length}
 use mathlib.Core.Path.{_≡_, refl}
-use Prim.Native.Nat.{_+_, _-_, _*_}
+use Prim.Native.Nat.{_-_, _*_}
 use Rattle.ring_edges.specs.Blocks.{unitAt}
 use Rattle.ring_edges.proofs.write_units.Statement.{statement}
 use Rattle.ring_edges.proofs.write_units.Tie as tie

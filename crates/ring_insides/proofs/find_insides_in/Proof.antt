@@ -10,9 +10,9 @@ find-insides-in-spec =
     tie.close
     (tie.spec
     (λ c κs. search needs)
-    (λ c κs. let w = c .before .before .before .before .before .before .before .before .before .before .before .before .before .before .before .pre in let r = ready (w .0) (c .before .before .before .before .before .before .before .start .ensures) in (r .0, r .1, omega (arith, r .2, w .1)))
+    (λ c κs. let w = c .before .before .before .before .before .before .before .before .before .before .before .before .before .before .before .pre in let r = ready (w .0) (c .before .before .before .before .before .before .before .whole-ring .ensures) in (r .0, r .1, omega (arith, r .2, w .1)))
     (λ c κs. search needs)
     (λ c. search needs)
     (λ c. search needs)
     (λ c. search needs)
-    (λ c. of-whole _ _ (c .before .before .before .before .before .before .before .before .before .before .before .before .before .before .before .start .ensures) (c .before .before .before .before .before .before .before .find-means .ensures) (c .insides-from .ensures)))
+    (λ c. of-whole _ _ (c .before .before .before .before .before .before .before .before .before .before .before .before .before .before .before .whole-ring .ensures) (c .before .before .before .before .before .before .before .find-means .ensures) (c .insides-from .ensures)))

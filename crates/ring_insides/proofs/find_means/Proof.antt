@@ -1,7 +1,7 @@
 use native.Mathlib.Omega.{arith}
 use borrow.Author.Needs.{needs}
 use mathlib.Core.Path.{refl, sym, _∙_}
-use Rattle.ring_ears.proofs.Places.{placed}
+use Rattle.ring_ears.proofs.Indexes.{indexed}
 use Rattle.ring_insides.proofs.Seekings.{Seeking, begin, stuck, both, cut, finish}
 use Rattle.ring_cut.proofs.Lefts.{found, found-convex}
 use Rattle.ring_insides.proofs.find_means.Statement.{statement}
@@ -31,7 +31,7 @@ find-means-spec =
     (λ c. stuck (c .before .before .before .before .before .before .loop .inv) (c .before .before .before .before .before .loop-test .taken) (c .before .lowest-ear .ensures) (c .if1 .taken))
     (λ c. search needs)
     (λ c. omega arith)
-    (λ c κs. let g = c .before .before .before .before .before .before .before .loop .inv .held in (placed (g .lent), rw (g .sized) (found g (c .before .before .lowest-ear .ensures) (c .before .if1 .left)), g .lent .few))
+    (λ c κs. let g = c .before .before .before .before .before .before .before .loop .inv .held in (indexed (g .lent), rw (g .sized) (found g (c .before .before .lowest-ear .ensures) (c .before .if1 .left)), g .lent .few))
     (λ c κs. search needs)
     (λ c κs. search needs)
     (λ c. search needs)
@@ -46,7 +46,7 @@ find-means-spec =
     (λ c. let t = c .before .before .before .before .before .before .cut-apart in cut (c .before .before .before .before .before .before .before .before .before .before .before .before .before .before .before .before .before .before .before .before .before .loop .inv) (c .before .before .before .before .before .before .before .before .before .before .before .before .before .before .before .before .before .before .before .before .loop-test .taken) (c .before .before .before .before .before .before .before .before .before .before .before .before .before .before .before .before .lowest-ear .ensures) (c .before .before .before .before .before .before .before .before .before .before .before .before .before .before .before .if1 .left) (rw (c .before .before .before .before .before .before .before .before .before .before .before .before .before .mean-at .ensures) at (c .before .before .before .before .before .before .before .before .before .before .before .before .with-mean .ensures)) refl (t .ensures .0) (t .kept .1 .0) (t .kept .1 .1 .0) (t .ensures .1) (t .ensures .2) (t .kept .1 .1 .1 .0))
     (λ c. search needs)
     (λ c. omega arith)
-    (λ c κs. let g = c .before .before .loop .inv .held in (placed (g .lent), omega arith, g .lent .few))
+    (λ c κs. let g = c .before .before .loop .inv .held in (indexed (g .lent), omega arith, g .lent .few))
     (λ c κs. search needs)
     (λ c. search needs)
     (λ c. search needs)

@@ -1,12 +1,12 @@
 use Rattle.ring_pair.proofs.Firsts.{asked-is}
 use borrow.Author.Tests.{lt-ltb, le-ltb}
-use Rattle.ring_pair.specs.Probes.{probeOf}
+use Rattle.ring_pair.specs.Probes.{unambiguousPoint}
 use borrow.Author.Needs.{needs}
 use Rattle.ring_pair.proofs.unambiguous_point.Statement.{statement}
 use Rattle.ring_pair.proofs.unambiguous_point.Tie as tie
 
 pub unambiguous-point-spec : {M : Type 1} → statement M
-unfolding probeOf
+unfolding unambiguousPoint
 unambiguous-point-spec =
     tie.close
     (tie.spec

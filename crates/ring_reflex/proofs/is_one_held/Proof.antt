@@ -1,9 +1,8 @@
 use Rattle.laws.proofs.Kit.{kit}
 use Prim.Native.Nat.{_-_}
 use lib.ListN.{length}
-use mathlib.Core.Path.{_≡_}
 use Rattle.laws.proofs.Loops.{Any}
-use Rattle.ring_reflex.specs.Apart.{holds, held, farNormal}
+use Rattle.ring_reflex.specs.Apart.{holds, held}
 use Rattle.ring_reflex.proofs.is_one_held.Statement.{statement}
 use Rattle.ring_reflex.proofs.is_one_held.Tie as tie
 

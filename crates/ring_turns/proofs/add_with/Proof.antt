@@ -1,4 +1,3 @@
-use native.Mathlib.Omega.{arith}
 use borrow.Author.Needs.{needs}
 use Rattle.ring_turns.proofs.add_with.Statement.{statement}
 use Rattle.ring_turns.proofs.add_with.Tie as tie

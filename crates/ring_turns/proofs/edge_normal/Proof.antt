@@ -1,6 +1,5 @@
 use Rattle.ring_turns.proofs.Edges.{normal-of-product}
 use borrow.Author.Needs.{needs}
-use mathlib.Core.Path.{_∙_}
 use Rattle.ring_turns.proofs.edge_normal.Statement.{statement}
 use Rattle.ring_turns.proofs.edge_normal.Tie as tie
 

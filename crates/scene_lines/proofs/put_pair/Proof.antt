@@ -12,4 +12,4 @@ put-pair-spec =
     (tie.spec
     (λ c. search needs) (λ c κs. search needs) (λ c κs. search needs) (λ c. search needs) (λ c κs. search needs)
     (λ c κs. search needs) (λ c κs. search needs) (λ c. search needs)
-    (λ c. ((then (then (then (then (c .before .before .before .before .before .before .before .before .before .before .before .before .before .before .before .before .before .before .before .put .ensures) (c .before .before .before .before .before .before .before .before .before .before .before .before .before .before .before .put-number .ensures .0)) (c .before .before .before .before .before .before .before .before .before .before .put2 .ensures)) (c .before .before .before .before .before .before .put-number2 .ensures .0)) (c .before .before .put-relation .ensures .0)), omega (arith, c .before .before .before .before .before .before .before .before .before .before .before .before .before .before .before .before .before .before .before .put .ensures .next-place, c .before .before .before .before .before .before .before .before .before .before .before .before .before .before .before .put-number .ensures .1, c .before .before .before .before .before .before .before .before .before .before .put2 .ensures .next-place, c .before .before .before .before .before .before .put-number2 .ensures .1, c .before .before .put-relation .ensures .1))))
+    (λ c. ((then (then (then (then (c .before .before .before .before .before .before .before .before .before .before .before .before .before .before .before .before .before .before .before .put .ensures) (c .before .before .before .before .before .before .before .before .before .before .before .before .before .before .before .put-number .ensures .0)) (c .before .before .before .before .before .before .before .before .before .before .put2 .ensures)) (c .before .before .before .before .before .before .put-number2 .ensures .0)) (c .before .before .put-relation .ensures .0)), omega (arith, c .before .before .before .before .before .before .before .before .before .before .before .before .before .before .before .before .before .before .before .put .ensures .next-offset, c .before .before .before .before .before .before .before .before .before .before .before .before .before .before .before .put-number .ensures .1, c .before .before .before .before .before .before .before .before .before .before .put2 .ensures .next-offset, c .before .before .before .before .before .before .put-number2 .ensures .1, c .before .before .put-relation .ensures .1))))

@@ -11,4 +11,4 @@ put-place-spec =
     tie.close
     (tie.spec
     (λ c. search needs) (λ c κs. search needs) (λ c κs. search needs) (λ c κs. search needs) (λ c. search needs)
-    (λ c. ((then (then (c .before .before .before .before .before .before .before .before .before .before .put .ensures) (c .before .before .before .before .before .before .put-number .ensures .0)) (c .before .before .put-answer .ensures .0)), omega (arith, c .before .before .before .before .before .before .before .before .before .before .put .ensures .next-place, c .before .before .before .before .before .before .put-number .ensures .1, c .before .before .put-answer .ensures .1))))
+    (λ c. ((then (then (c .before .before .before .before .before .before .before .before .before .before .put .ensures) (c .before .before .before .before .before .before .put-number .ensures .0)) (c .before .before .put-answer .ensures .0)), omega (arith, c .before .before .before .before .before .before .before .before .before .before .put .ensures .next-offset, c .before .before .before .before .before .before .put-number .ensures .1, c .before .before .put-answer .ensures .1))))

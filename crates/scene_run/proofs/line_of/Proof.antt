@@ -9,5 +9,5 @@ line-of-spec =
     (λ c. search needs) (λ c. search needs) (λ c. search needs) (λ c. search needs)
     (λ c. simp (c .enum-told .given .1))
     (λ c. simp (c .enum-told2 .given .1))
-    (λ c. simp (c .before .outcome .given .1))
+    (λ c. simp (c .before .report .given .1))
     (λ c. search needs))

@@ -11,4 +11,4 @@ put-digit-spec =
     (tie.spec
     (λ c. (simp (lt-ltb _ _ (c .if1 .taken)) nothing, omega arith))
     (λ c. search needs) (λ c. search needs) (λ c. search needs) (λ c κs. search needs) (λ c. search needs)
-    (λ c. (simp (le-ltb _ _ (c .before .before .before .before .if1 .left)) (c .before .before .put-byte .ensures), omega (arith, c .before .before .put-byte .ensures .next-place))))
+    (λ c. (simp (le-ltb _ _ (c .before .before .before .before .if1 .left)) (c .before .before .put-byte .ensures), omega (arith, c .before .before .put-byte .ensures .next-offset))))

@@ -12,4 +12,4 @@ put-number-spec =
     (tie.spec
     (λ c κs. search needs) (λ c κs. search needs) (λ c κs. search needs) (λ c κs. search needs)
     (λ c. search needs) (λ c. search needs) (λ c κs. search needs) (λ c. search needs)
-    (λ c. (then (then (then (then (c .before .before .before .before .before .before .before .before .before .before .before .before .before .before .before .before .before .before .put-digit .ensures .0) (c .before .before .before .before .before .before .before .before .before .before .before .before .before .before .put-digit2 .ensures .0)) (c .before .before .before .before .before .before .before .before .before .before .put-digit3 .ensures .0)) (c .before .before .before .before .before .before .put-digit4 .ensures .0)) (c .before .before .put-byte .ensures), omega (arith, c .before .before .put-byte .ensures .next-place, c .before .before .before .before .before .before .put-digit4 .ensures .1, c .before .before .before .before .before .before .before .before .before .before .put-digit3 .ensures .1, c .before .before .before .before .before .before .before .before .before .before .before .before .before .before .put-digit2 .ensures .1, c .before .before .before .before .before .before .before .before .before .before .before .before .before .before .before .before .before .before .put-digit .ensures .1))))
+    (λ c. (then (then (then (then (c .before .before .before .before .before .before .before .before .before .before .before .before .before .before .before .before .before .before .put-digit .ensures .0) (c .before .before .before .before .before .before .before .before .before .before .before .before .before .before .put-digit2 .ensures .0)) (c .before .before .before .before .before .before .before .before .before .before .put-digit3 .ensures .0)) (c .before .before .before .before .before .before .put-digit4 .ensures .0)) (c .before .before .put-byte .ensures), omega (arith, c .before .before .put-byte .ensures .next-offset, c .before .before .before .before .before .before .put-digit4 .ensures .1, c .before .before .before .before .before .before .before .before .before .before .put-digit3 .ensures .1, c .before .before .before .before .before .before .before .before .before .before .before .before .before .before .put-digit2 .ensures .1, c .before .before .before .before .before .before .before .before .before .before .before .before .before .before .before .before .before .before .put-digit .ensures .1))))

@@ -9,10 +9,10 @@ put-relation-spec =
     tie.close
     (tie.spec
     (λ c. search needs) (λ c κs. search needs) (λ c. search needs)
-    (λ c. (simp (eq-eqb _ _ (c .before .before .before .before .before .if1 .taken)) (c .before .before .put .ensures), omega (arith, c .before .before .put .ensures .next-place)))
+    (λ c. (simp (eq-eqb _ _ (c .before .before .before .before .before .if1 .taken)) (c .before .before .put .ensures), omega (arith, c .before .before .put .ensures .next-offset)))
     (λ c. search needs) (λ c κs. search needs) (λ c. search needs)
-    (λ c. (simp (ne-eqb _ _ (c .before .before .before .before .before .before .if1 .left), eq-eqb _ _ (c .before .before .before .before .before .if2 .taken)) (c .before .before .put2 .ensures), omega (arith, c .before .before .put2 .ensures .next-place)))
+    (λ c. (simp (ne-eqb _ _ (c .before .before .before .before .before .before .if1 .left), eq-eqb _ _ (c .before .before .before .before .before .if2 .taken)) (c .before .before .put2 .ensures), omega (arith, c .before .before .put2 .ensures .next-offset)))
     (λ c. search needs) (λ c κs. search needs) (λ c. search needs)
-    (λ c. (simp (ne-eqb _ _ (c .before .before .before .before .before .before .before .if1 .left), ne-eqb _ _ (c .before .before .before .before .before .before .if2 .left), eq-eqb _ _ (c .before .before .before .before .before .if3 .taken)) (c .before .before .put3 .ensures), omega (arith, c .before .before .put3 .ensures .next-place)))
+    (λ c. (simp (ne-eqb _ _ (c .before .before .before .before .before .before .before .if1 .left), ne-eqb _ _ (c .before .before .before .before .before .before .if2 .left), eq-eqb _ _ (c .before .before .before .before .before .if3 .taken)) (c .before .before .put3 .ensures), omega (arith, c .before .before .put3 .ensures .next-offset)))
     (λ c κs. search needs) (λ c. search needs)
     (λ c. (simp (ne-eqb _ _ (c .before .before .before .before .before .before .if1 .left), ne-eqb _ _ (c .before .before .before .before .before .if2 .left), ne-eqb _ _ (c .before .before .before .before .if3 .left)) (c .before .before .put-last-relations .ensures .0), omega (arith, c .before .before .put-last-relations .ensures .1))))

@@ -8,6 +8,6 @@ put-sure-spec =
     tie.close
     (tie.spec
     (λ c. search needs) (λ c κs. search needs) (λ c. search needs) (λ c κs. search needs) (λ c. search needs)
-    (λ c. (simp (c .before .before .before .before .before .if1 .taken) (c .before .before .put .ensures), omega (arith, c .before .before .put .ensures .next-place)))
+    (λ c. (simp (c .before .before .before .before .before .if1 .taken) (c .before .before .put .ensures), omega (arith, c .before .before .put .ensures .next-offset)))
     (λ c. search needs)
-    (λ c. (simp (c .before .before .before .before .before .if1 .left) (c .before .before .put2 .ensures), omega (arith, c .before .before .put2 .ensures .next-place))))
+    (λ c. (simp (c .before .before .before .before .before .if1 .left) (c .before .before .put2 .ensures), omega (arith, c .before .before .put2 .ensures .next-offset))))

@@ -1,14 +1,13 @@
 use Prim.Native.Nat.{_≤_}
-use native.Mathlib.Omega.{arith}
 use borrow.Author.Needs.{needs}
 use Rattle.test_cuts.proofs.main.Statement.{statement}
 use Rattle.test_cuts.proofs.main.Tie as tie
 
 abbrev Inv-loop : tie.InvT-loop
-Inv-loop turns₀ turns = turns ≤ turns₀
+Inv-loop iterations₀ iterations = iterations ≤ iterations₀
 
 abbrev μ-loop : tie.MeasureT-loop
-μ-loop turns₀ turns = turns
+μ-loop iterations₀ iterations = iterations
 
 pub main-spec : {M : Type 1} → statement M
 main-spec =

@@ -1,6 +1,5 @@
 -- `print_triangles` is safe and ends. Assumes nothing.
 use Prim.Native.Nat.{_-_, _≤_}
-use native.Mathlib.Omega.{arith}
 use borrow.Author.Needs.{needs}
 use lib.ListN.{length}
 use Rattle.test_cuts.proofs.print_triangles.Statement.{statement}

@@ -1,9 +1,8 @@
 -- `blank` is safe and ends. Assumes nothing.
 use Prim.Native.Nat.{_-_}
 use mathlib.Core.Path.{_≡_, refl}
-use native.Mathlib.Omega.{arith}
 use borrow.Author.Needs.{needs}
-use lib.ListN.{length, length-set}
+use lib.ListN.{length}
 use Rattle.test_replay.proofs.blank.Statement.{statement}
 use Rattle.test_replay.proofs.blank.Tie as tie
 

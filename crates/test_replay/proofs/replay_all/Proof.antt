@@ -1,15 +1,14 @@
 use Prim.Native.Nat.{_+_, _≤_}
 use mathlib.Core.Path.{_≡_}
-use native.Mathlib.Omega.{arith}
 use borrow.Author.Needs.{needs}
 use Rattle.test_replay.proofs.replay_all.Statement.{statement}
 use Rattle.test_replay.proofs.replay_all.Tie as tie
 
 abbrev Inv-loop : tie.InvT-loop
-Inv-loop fd turns₀ agreed₀ all₀ turns agreed all = (agreed ≤ all) × (all + turns ≡ 1000000)
+Inv-loop fd iterations₀ agreed₀ all₀ iterations agreed all = (agreed ≤ all) × (all + iterations ≡ 1000000)
 
 abbrev μ-loop : tie.MeasureT-loop
-μ-loop fd turns₀ agreed₀ all₀ turns agreed all = turns
+μ-loop fd iterations₀ agreed₀ all₀ iterations agreed all = iterations
 
 pub replay-all-spec : {M : Type 1} → statement M
 replay-all-spec =

@@ -1,4 +1,3 @@
-use native.Mathlib.Omega.{arith}
 use mathlib.Core.Path.{sym}
 use Rattle.laws.proofs.Copies.{first-of}
 use Rattle.test_replay.proofs.Rooms.{fits}

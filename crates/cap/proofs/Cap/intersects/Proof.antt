@@ -1,10 +1,10 @@
-use Rattle.cap.specs.Caps.{meet}
+use Rattle.cap.specs.Caps.{intersects}
 use borrow.Author.Needs.{needs}
 use Rattle.cap.proofs.Cap.intersects.Statement.{statement}
 use Rattle.cap.proofs.Cap.intersects.Tie as tie
 
 pub intersects-spec : {M : Type 1} → statement M
-unfolding meet
+unfolding intersects
 intersects-spec =
     tie.close
     (tie.spec

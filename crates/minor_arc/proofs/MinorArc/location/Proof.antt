@@ -10,4 +10,4 @@ location-spec =
     (tie.spec (λ c κs. tt) (λ c. search needs)
     (λ c. simp (← c .before .before .side-of .ensures, c .enum-told .given .1))
     (λ c κs. tt) (λ c κs. tt)
-    (λ c. simp (c .place .ensures, c .before .side-of2 .ensures, c .before .before .before .side-of .ensures)))
+    (λ c. simp (c .locate .ensures, c .before .side-of2 .ensures, c .before .before .before .side-of .ensures)))

@@ -8,4 +8,4 @@ misses-spec =
     tie.close
     (tie.spec (λ c κs. tt) (λ c κs. tt) (λ c κs. tt) (λ c κs. tt) (λ c κs. tt) (λ c κs. tt) (λ c κs. tt)
     (λ c. let e = c .before .before in
-    simp (c .is-left .ensures, c .before .is-right .ensures, e .dot-prod2 .ensures, e .before .cross-prod2 .ensures, e .before .before .dot-prod .ensures, e .before .before .before .cross-prod .ensures, e .before .before .before .before .nearer .ensures)))
+    simp (c .settles-left .ensures, c .before .settles-right .ensures, e .dot-prod2 .ensures, e .before .cross-prod2 .ensures, e .before .before .dot-prod .ensures, e .before .before .before .cross-prod .ensures, e .before .before .before .before .nearer .ensures)))

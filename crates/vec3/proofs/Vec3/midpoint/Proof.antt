@@ -1,10 +1,10 @@
-use Rattle.vec3.specs.Points.{middle}
+use Rattle.vec3.specs.Points.{midpoint}
 use borrow.Author.Needs.{needs}
 use Rattle.vec3.proofs.Vec3.midpoint.Statement.{statement}
 use Rattle.vec3.proofs.Vec3.midpoint.Tie as tie
 
 pub midpoint-spec : {M : Type 1} → statement M
-unfolding middle
+unfolding midpoint
 midpoint-spec =
     tie.close
     (tie.spec

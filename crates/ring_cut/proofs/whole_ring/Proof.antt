@@ -1,10 +1,10 @@
 use Rattle.ring_cut.proofs.Wholes.{started}
 use borrow.Author.Needs.{needs}
-use Rattle.ring_cut.proofs.start.Statement.{statement}
-use Rattle.ring_cut.proofs.start.Tie as tie
+use Rattle.ring_cut.proofs.whole_ring.Statement.{statement}
+use Rattle.ring_cut.proofs.whole_ring.Tie as tie
 
-pub start-spec : {M : Type 1} → statement M
-start-spec =
+pub whole-ring-spec : {M : Type 1} → statement M
+whole-ring-spec =
     tie.close
     (tie.spec
     (λ c κs. search needs) (λ c κs. search needs) (λ c. search needs) (λ c. search needs)

@@ -1,4 +1,4 @@
--- Ring numbers lent with their positions, and places counted round. Assumes nothing.
+-- Ring numbers lent with their positions, and indexes counted round. Assumes nothing.
 use Prim.Native.Nat.{ℕ, _+_, _-_, _%_, _≤_, _<_}
 use mathlib.Core.Path.{_≡_, ap, _∙_}
 use mathlib.Core.List.{List}
@@ -8,11 +8,11 @@ use lib.ListN.{length}
 use lib.Ieee.{Float}
 use Rattle.ring_theory.specs.Ring.{without}
 use Rattle.ring_theory.proofs.Withouts.{length-without, below-without}
-use Rattle.ring_ears.specs.Ears.{Lent, Placed}
+use Rattle.ring_ears.specs.Ears.{Lent, Indexed}
 
 module _ {ps : List Float} {ids classes : List ℕ} (l : Lent ps ids classes) where
-  pub placed : Placed ps ids
-  placed j h = omega (arith, l .below j h, l .whole)
+  pub indexed : Indexed ps ids
+  indexed j h = omega (arith, l .below j h, l .whole)
 
   -- with other classes
   pub relent : {others : List ℕ} → length others ≡ length classes → Lent ps ids others
@@ -24,7 +24,7 @@ module _ {ps : List Float} {ids classes : List ℕ} (l : Lent ps ids classes) wh
       let e = length-without i ids h in
       (record { below = below-without i ids h (l .below); whole = l .whole; most = l .most; few = omega (arith, l .few) }, omega arith)
 
--- the place before one that is counted round
+-- the index before one that is counted round
 pub previous-wrapped : (i : ℕ) {k m : ℕ} → k < m → (i % m + m - 1) % m ≡ (i + m - 1) % m
 previous-wrapped i {k} {m} h =
     let p : (i % m) + m - 1 ≡ (i % m) + (m - 1) = omega arith in

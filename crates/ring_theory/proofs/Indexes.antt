@@ -1,4 +1,4 @@
--- A ring that is a list of increasing numbers: which numbers are on it, its sides by their places, and what is left of it when a corner is cut off. Assumes nothing.
+-- A ring that is a list of increasing numbers: which numbers are on it, its sides by their indexes, and what is left of it when a corner is cut off. Assumes nothing.
 use Prim.Native.Nat.{ℕ, zero, suc, _+_, _-_, _%_, _≤_, _<_}
 use mathlib.Core.Path.{_≡_, refl, sym, ap, _∙_, subst}
 use mathlib.Core.Logic.{_≢_}
@@ -12,7 +12,7 @@ use Rattle.ring_theory.proofs.Withouts.{length-without, getD-without-lo
 use Rattle.ring_theory.proofs.Rounds.{Round, straight, over, after}
 use Rattle.ring_theory.proofs.Steps.{Side, Cutting}
 
--- the number at place j
+-- the number at index j
 abbrev pub nth : List ℕ → ℕ → ℕ
 nth ids j = getD ids j 0
 
@@ -20,14 +20,14 @@ abbrev pub Increasing : List ℕ → Type 0
 Increasing ids = (j k : ℕ) → j < k → k < length ids → nth ids j < nth ids k
 
 pub record In (ids : List ℕ) (w : ℕ) : Type 0 where
-  pub place : ℕ
-  pub inside : place < length ids
-  pub there : nth ids place ≡ w
+  pub index : ℕ
+  pub inside : index < length ids
+  pub there : nth ids index ≡ w
 
-pub at-place : {ids : List ℕ} (j : ℕ) → j < length ids → In ids (nth ids j)
-at-place j h = record { place = j; inside = h; there = refl }
+pub at-index : {ids : List ℕ} (j : ℕ) → j < length ids → In ids (nth ids j)
+at-index j h = record { index = j; inside = h; there = refl }
 
--- j is the place after i, of m counted round
+-- j is the index after i, of m counted round
 pub data Follows (m i j : ℕ) : Type 0 where
   on : j ≡ i + 1 → j < m → Follows m i j
   round : j ≡ 0 → i + 1 ≡ m → Follows m i j
@@ -72,13 +72,13 @@ module _ (ids : List ℕ) (inc : Increasing ids) where
       go (yes n) = omega (arith, inc j k n l)
       go (no n) = omega (arith, inc k j (omega arith) h)
 
-  -- neighbouring places make a side
+  -- neighbouring indexes make a side
   pub side-at : (i j : ℕ) → 2 ≤ length ids → Follows (length ids) i j → Side (In ids) (nth ids i) (nth ids j)
   side-at i j two f = record {
-    from = at-place i (follows-below f .0);
-    to = at-place j (follows-below f .1);
+    from = at-index i (follows-below f .0);
+    to = at-index j (follows-below f .1);
     differ = apart-at i j (follows-below f .0) (follows-below f .1) (differ f);
-    bare = λ w h r. bare f (h .place) (h .inside) (subst (λ x. Round (nth ids i) x (nth ids j)) (sym (h .there)) r);
+    bare = λ w h r. bare f (h .index) (h .inside) (subst (λ x. Round (nth ids i) x (nth ids j)) (sym (h .there)) r);
   }
     where
       differ : Follows (length ids) i j → i ≢ j
@@ -121,10 +121,10 @@ module _ (ids : List ℕ) (inc : Increasing ids) where
 
     -- on what is left is what was on the ring, but for the corner cut off
     was-in : {w : ℕ} → In (without i ids) w → In ids w × (w ≢ nth ids i)
-    was-in {w} r = go (decLt (r .place) i)
+    was-in {w} r = go (decLt (r .index) i)
       where
         j : ℕ
-        j = r .place
+        j = r .index
 
         n : j + 1 < length ids
         n = omega (arith, size, r .inside)
@@ -132,16 +132,16 @@ module _ (ids : List ℕ) (inc : Increasing ids) where
         go : Dec (j < i) → In ids w × (w ≢ nth ids i)
         go (yes x) =
             let e : nth ids j ≡ w = sym (low j x) ∙ r .there in
-            (record { place = j; inside = omega arith; there = e }, rw (← e) (apart-at j i (omega arith) h (omega arith)))
+            (record { index = j; inside = omega arith; there = e }, rw (← e) (apart-at j i (omega arith) h (omega arith)))
         go (no x) =
             let e : nth ids (j + 1) ≡ w = sym (high j (omega arith)) ∙ r .there in
-            (record { place = j + 1; inside = n; there = e }, rw (← e) (apart-at (j + 1) i n h (omega arith)))
+            (record { index = j + 1; inside = n; there = e }, rw (← e) (apart-at (j + 1) i n h (omega arith)))
 
     stays-in : {w : ℕ} → In ids w → w ≢ nth ids i → In (without i ids) w
-    stays-in {w} r d = go (decLt (r .place) i)
+    stays-in {w} r d = go (decLt (r .index) i)
       where
         j : ℕ
-        j = r .place
+        j = r .index
 
         l : j < length ids
         l = r .inside
@@ -150,12 +150,12 @@ module _ (ids : List ℕ) (inc : Increasing ids) where
         ne e = d (sym (r .there) ∙ ap (nth ids) e)
 
         go : Dec (j < i) → In (without i ids) w
-        go (yes x) = record { place = j; inside = omega (arith, size); there = low j x ∙ r .there }
+        go (yes x) = record { index = j; inside = omega (arith, size); there = low j x ∙ r .there }
         go (no x) =
             let e : j - 1 + 1 ≡ j = omega (arith, ne) in
-            record { place = j - 1; inside = omega (arith, size, ne); there = high (j - 1) (omega (arith, ne)) ∙ ap (nth ids) e ∙ r .there }
+            record { index = j - 1; inside = omega (arith, size, ne); there = high (j - 1) (omega (arith, ne)) ∙ ap (nth ids) e ∙ r .there }
 
--- four places in a row, of more than three
+-- four corners in a row, of more than three
 four : {m p i n x : ℕ} → 3 < m → Follows m p i → Follows m i n → Follows m n x → (p ≢ n) × (x ≢ p) × (x ≢ i) × (x ≢ n)
 four h (on a b) (on c d) (on e f) = omega arith
 four h (on a b) (on c d) (round e f) = omega arith
@@ -186,7 +186,7 @@ module _ (ids : List ℕ) (inc : Increasing ids) (i : ℕ) (h : 3 < length ids) 
         kept = λ w r e. stays-in ids inc i k r e;
         more = (
           nth ids ((next ids i + 1) % m),
-          at-place ((next ids i + 1) % m) x,
+          at-index ((next ids i + 1) % m) x,
           apart-at ids inc ((next ids i + 1) % m) (prev ids i) x p (d .1),
           apart-at ids inc ((next ids i + 1) % m) i x k (d .2),
           apart-at ids inc ((next ids i + 1) % m) (next ids i) x n (d .3),

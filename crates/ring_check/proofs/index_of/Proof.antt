@@ -1,21 +1,21 @@
 use Rattle.laws.proofs.Kit.{kit}
 use lib.ListN.{length}
 use Prim.Native.Nat.{_-_}
-use Rattle.ring_check.specs.Accepted.{isNumber, placeOf}
+use Rattle.ring_check.specs.Accepted.{isNumber, indexOf}
 use mathlib.Core.Path.{refl, sym}
 use borrow.Author.Tests.{eq-eqb, ne-eqb}
 use Rattle.laws.proofs.Loops.{Look, look-hit, look-on}
-use Rattle.ring_check.proofs.place_of.Statement.{statement}
-use Rattle.ring_check.proofs.place_of.Tie as tie
+use Rattle.ring_check.proofs.index_of.Statement.{statement}
+use Rattle.ring_check.proofs.index_of.Tie as tie
 
 abbrev Inv-loop : tie.InvT-loop
-Inv-loop ids b i₀ i-end i = Look (isNumber ids b) (length ids) i (placeOf ids b)
+Inv-loop ids b i₀ i-end i = Look (isNumber ids b) (length ids) i (indexOf ids b)
 
 abbrev μ-loop : tie.MeasureT-loop
 μ-loop ids b i₀ i-end i = length ids - i
 
-pub place-of-spec : {M : Type 1} → statement M
-place-of-spec =
+pub index-of-spec : {M : Type 1} → statement M
+index-of-spec =
     tie.close
     (tie.spec
     Inv-loop μ-loop

@@ -1,11 +1,11 @@
 use Rattle.bytes_loop.specs.Layout.{sizeFault}
 use borrow.Author.Tests.{eq-eqb, ne-eqb}
-use Rattle.bytes_arcs.proofs.length_fault.Statement.{statement}
-use Rattle.bytes_arcs.proofs.length_fault.Tie as tie
+use Rattle.bytes_arcs.proofs.size_fault.Statement.{statement}
+use Rattle.bytes_arcs.proofs.size_fault.Tie as tie
 
-pub length-fault-spec : {M : Type 1} → statement M
+pub size-fault-spec : {M : Type 1} → statement M
 unfolding sizeFault
-length-fault-spec =
+size-fault-spec =
     tie.close
     (tie.spec
     (λ c. simp (eq-eqb _ _ (c .if1 .taken)))

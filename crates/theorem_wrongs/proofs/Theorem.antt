@@ -1,72 +1,122 @@
+-- Each named wrong program is refuted by computing the definition at its input. Assumes nothing.
 use Prim.Native.Nat.{ℕ, _+_}
 use native.Mathlib.Omega.{arith}
-use Rattle.cap.specs.Caps.{grown, boundingCap}
-use Rattle.chord_length.specs.Chords.{fromSquaredLength, joined, sum, laterMax}
-use Rattle.ring_place.specs.Places.{metAt, crossedEvenly, insideBy, nest}
-use mathlib.Core.Path.{_≡_, refl, sym, ap, _∙_}
-use mathlib.Core.List.{List, [], _∷_}
-use lib.Ieee.{add, sub, mul, div, neg, lt, le, eq, ofBits}
-use Rattle.numbers.specs.Near.{abs}
-use Rattle.root.specs.Root.{rootOf}
-use Rattle.laws.specs.Loop.{firstOf, anyOf, firstAt, iterate, flat}
-use Rattle.vec3.specs.Vec.{unitVec, unit, axisFor, orthogonalTo}
-use Rattle.ring_place.specs.Places.{sides}
-use Rattle.angle.specs.Arctan.{size, sumOf, acute, quadrant, atan2}
-use Rattle.base.specs.Sides.{signOf, retestOf, sideOf}
-use Rattle.base.specs.Turns.{sineOf}
+use mathlib.Core.Path.{_≡_, refl, ap}
+use mathlib.Core.Bool.{Bool, true, false}
+use lib.ListN.{getD}
+use lib.Ieee.{binary64, toBits}
+use Rattle.vec3.specs.declared.Insides.{Insides}
+use Rattle.vec3.specs.declared.Insides.the-variants.{Absent, Two}
+use Rattle.base.specs.declared.Side.{Side}
+use Rattle.base.specs.declared.Side.the-variants.{Left, Right, Collinear}
 use Rattle.judge.specs.Judge.{vectorFault, faultOf}
-use Rattle.cap.specs.Caps.{intersects}
-use Rattle.ring_turns.specs.Turns.{edgeNormal, turnAt, turnSum}
-use Rattle.ring_corners.specs.Corners.{opened, reversal, normalAt, classBy, classAt, allBoth}
-use Rattle.ring_triangle.specs.Inside.{fits, edgeSide, fitsEdges, isCorner, insideOrEdge}
-use Rattle.ring_ears.specs.Ears.{blocks, ear, reclassify, reclassifyBoth, cutAt}
-use Rattle.ring_cut.specs.Cut.{cutting, cutRingOutcome}
-use Rattle.loop_header.specs.Loops.{shapeFault, threesOf, ringFault, classesFault, cutFault, checkFault, capFault, vectorsFault, loopFault}
-use Rattle.loop_build.specs.Build.{listFault, roomFault, refusal, ringHeader, insidesFor, made, buildOutcome, Told, refused, loop}
-use Rattle.loop_ask.specs.Questions.{pairFault, placeAnswer, queryFault}
-use Rattle.loop_ask.specs.Places.{placeWithout}
-use Rattle.ring_place.specs.Places.{inTriangle}
-use Rattle.ring_edges.specs.Edges.{hasVertex}
+use Rattle.loop_header.specs.Loops.{stateCode}
+use Rattle.loop_build.specs.Build as Build
 use Rattle.loop_ask.specs.Answers as Answers
-use Rattle.ring_check.specs.Accepted.{fitsAt, sameNumbers, accepts, accepted}
-use Rattle.loop_triangles.specs.Triangles.{ringOutcome, triangulateOutcome, acceptsAnswer}
-use Rattle.loop_relate.specs.Relations.{byCaps, byStates, relateAnswer}
-use Rattle.theorem_wrongs.specs.Wrongs.{Wrongs}
+use Rattle.theorem_settled.proofs.Computing as Computing
+use Rattle.theorem_wrongs.specs.Wrongs.{EmptyPrograms, Traps, OfNumbers, OfBuilding, OfAsking, OfCutting, OfRelating, Wrongs}
 
--- the number of an answer
-abbrev code : Answers.Told → ℕ
-code (Answers.refused k) = 0
-code (Answers.answer n) = n
+-- what tells two values apart
+abbrev told : Answers.Told → ℕ
+told (Answers.refused k) = 100 + k
+told (Answers.answer n) = n
 
-other : (t : Answers.Told) (m n : ℕ) → (m ≡ n → ⊥) → t ≡ Answers.answer m → t ≡ Answers.answer n → ⊥
-other t m n d p q = d (ap code (sym p ∙ q))
+abbrev built-as : Build.Told → ℕ
+built-as (Build.refused k) = 0
+built-as (Build.loop h) = 1
 
-abbrev kind : Told → ℕ
-kind (refused k) = 0
-kind (loop h) = 1
+abbrev side : Side → ℕ
+side Left = 0
+side Right = 1
+side Collinear = 2
 
-abbrev first : List ℕ → ℕ
-first [] = 9
-first (n ∷ l) = n
+abbrev sure : Bool → ℕ
+sure false = 0
+sure true = 1
 
-list-other : (l : List ℕ) (m n : ℕ) (a b : List ℕ) → (m ≡ n → ⊥) → l ≡ m ∷ a → l ≡ n ∷ b → ⊥
-list-other l m n a b d p q = d (ap first (sym p ∙ q))
+abbrev inner : Insides → ℕ
+inner Absent = 0
+inner (Two a b) = 1
 
-apart : (m n k : ℕ) → m + k + 1 ≡ n → m ≡ n → ⊥
-apart m n k d e = omega (arith, d, e)
+below : (m n k : ℕ) → m + k + 1 ≡ n → m ≡ n → ⊥
+below m n k d e = omega (arith, d, e)
 
 above : (m n k : ℕ) → n + k + 1 ≡ m → m ≡ n → ⊥
 above m n k d e = omega (arith, d, e)
 
+empty-programs : EmptyPrograms
+unfolding Computing.of-asking Computing.of-cutting Computing.of-relating
+empty-programs = record {
+  refuses-each-list = λ k e. above 1 0 0 refl (ap built-as e);
+  outside-always = λ e. above 1 0 0 refl (ap told e);
+  disjoint-always = λ e. above 3 0 2 refl (ap told e);
+  blank-ring = λ e. below 0 2 1 refl (ap (λ l. getD l 0 9) e);
+  fan = λ e. above 3 0 2 refl (ap (λ l. getD l 0 9) e);
+  made-up-count = λ e. below 2 3 0 refl (ap told e);
+}
+
+traps : Traps
+unfolding Computing.of-asking Computing.of-checking
+traps = record {
+  every-vertex-afresh = λ e. below 3 108 104 refl (ap told e);
+  first-by-side = λ e. above 1 0 0 refl (ap (λ l. getD l 1 9) e);
+  strict-side = λ e. above 2 0 1 refl (ap side e);
+  corner-inside = λ e. below 0 1 0 refl (ap told e);
+  by-position = λ e. below 0 1 0 refl (ap told e);
+}
+
+of-numbers : OfNumbers
+unfolding Computing.of-sides faultOf vectorFault toBits
+of-numbers = record {
+  side-turned = λ e. below 0 1 0 refl (ap side e);
+  strict-equality = λ e. above 1 0 0 refl (ap sure e);
+  root-cut-off = λ e. above 0x3ff6_a09e_667f_3bcd 0x3ff6_a09e_667f_3bcc 0 refl (ap (toBits binary64) e);
+  upper-end-left-out = λ e. below 0 4 3 refl e;
+  last-component-passed-over = λ e. above 3 0 2 refl e;
+}
+
+of-building : OfBuilding
+unfolding Computing.of-building Computing.of-caps
+of-building = record {
+  room-for-two = λ e. above 1 0 0 refl (ap built-as e);
+  flat-empty = λ e. above 1 0 0 refl (ap stateCode e);
+  ring-kept = λ e. above 1 0 0 refl (ap sure e);
+  triangle-with-insides = λ a b e. below 0 1 0 refl (ap inner e);
+}
+
+of-asking : OfAsking
+unfolding Computing.of-asking
+of-asking = record {
+  full-is-outside = λ e. above 1 0 0 refl (ap told e);
+  query-before-loop = λ e. below 101 103 1 refl (ap told e);
+}
+
+of-cutting : OfCutting
+unfolding Computing.of-checking
+of-cutting = record {
+  class-of-three = λ e. above 106 1 104 refl (ap told e);
+  room-for-one-less = λ e. above 105 2 102 refl (ap told e);
+  rotated = λ e. below 0 1 0 refl (ap told e);
+  triple-too-many = λ e. below 0 1 0 refl (ap told e);
+  any-corner = λ e. below 0 1 0 refl (ap told e);
+}
+
+of-relating : OfRelating
+unfolding Computing.of-relating
+of-relating = record {
+  within-for-containing = λ e. below 3 4 0 refl (ap told e);
+  full-equals-empty = λ e. below 3 5 1 refl (ap told e);
+  empty-within = λ e. below 0 4 3 refl (ap told e);
+  second-loop-first = λ e. below 101 106 4 refl (ap told e);
+}
+
 pub wrongs : Wrongs
-unfolding insidesFor hasVertex unit sides nest grown boundingCap fromSquaredLength joined sum laterMax metAt crossedEvenly insideBy placeAnswer queryFault placeWithout inTriangle relateAnswer pairFault loopFault vectorsFault capFault byStates byCaps intersects acceptsAnswer checkFault accepted accepts fitsAt sameNumbers triangulateOutcome cutFault shapeFault threesOf ringFault classesFault ringOutcome cutRingOutcome cutting firstAt blocks ear reclassify reclassifyBoth cutAt insideOrEdge isCorner fitsEdges edgeSide fits sideOf signOf retestOf buildOutcome refusal listFault roomFault firstOf faultOf vectorFault opened made allBoth anyOf flat classAt classBy normalAt reversal turnSum iterate turnAt sineOf atan2 quadrant acute sumOf size edgeNormal ringHeader orthogonalTo unitVec axisFor abs rootOf add sub mul div neg lt le eq ofBits
 wrongs = record {
-  refuses-each-list = λ k e. above 1 0 0 refl (ap kind e);
-  outside-always = other _ 1 0 (above 1 0 0 refl) refl;
-  corner-inside = other _ 0 1 (apart 0 1 0 refl) refl;
-  disjoint-always = other _ 3 0 (above 3 0 2 refl) refl;
-  blank-ring = list-other _ 0 2 _ _ (apart 0 2 1 refl) refl;
-  fan = list-other _ 3 0 _ _ (above 3 0 2 refl) refl;
-  made-up-count = other _ 2 3 (apart 2 3 0 refl) refl;
-  rotated = other _ 0 1 (apart 0 1 0 refl) refl;
+  empty-programs = empty-programs;
+  traps = traps;
+  of-numbers = of-numbers;
+  of-building = of-building;
+  of-asking = of-asking;
+  of-cutting = of-cutting;
+  of-relating = of-relating;
 }

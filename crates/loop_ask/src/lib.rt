@@ -1,4 +1,5 @@
-// Asking a loop: whether a place lies in it, its triangles, the checker, and the other questions. Each judges what it is handed, then answers.
+// Asking a loop: whether a place lies in it, at a corner or on an edge, whether it is convex or simple, and whether another is the same. Each judges what it is
+// handed, then answers.
 ghost use mathlib.Core.Path.{_≡_};
 ghost use Prim.Native.Nat.{_*_, _≤_};
 ghost use lib.ListN.{length};

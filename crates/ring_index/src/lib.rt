@@ -1,4 +1,4 @@
-// Places counted round a ring of n, and the blocks in which a ring is walked. By comparison: a division costs more than the rest of a step.
+// Indexes counted round a ring of n, and the blocks in which a ring is walked. By comparison: a division costs more than the rest of a step.
 ghost use mathlib.Core.Path.{_≡_};
 ghost use Prim.Native.Nat.{_+_, _-_, _%_, _≤_, _<_};
 ghost use Rattle.ring_index.specs.Blocks.{blockEnd};

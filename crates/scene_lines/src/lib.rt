@@ -1,4 +1,4 @@
-// The lines of a scene, written into a lent slice of bytes from a place on. Each function answers the place after its text.
+// The lines of a scene, written into a lent slice of bytes from an offset on. Each function answers the offset after its text.
 ghost use mathlib.Core.Path.{_≡_};
 ghost use Prim.Native.Nat.{_+_, _≤_};
 ghost use lib.ListN.{length};

@@ -1,4 +1,4 @@
-// A scene's records taken one by one: what is known between two records, and what each comes to.
+// A scene's records taken one by one: what each comes to.
 ghost use mathlib.Core.Path.{_≡_};
 ghost use Prim.Native.Nat.{_+_, _*_};
 ghost use Rattle.loop_ask.specs.Answers.{toldPlaced};

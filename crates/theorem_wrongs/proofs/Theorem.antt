@@ -97,6 +97,7 @@ of-cutting = record {
   class-of-three = λ e. above 106 1 104 refl (ap told e);
   room-for-one-less = λ e. above 105 2 102 refl (ap told e);
   rotated = λ e. below 0 1 0 refl (ap told e);
+  one-neighbour = λ e. below 0 1 0 refl (ap told e);
   triple-too-many = λ e. below 0 1 0 refl (ap told e);
   any-corner = λ e. below 0 1 0 refl (ap told e);
 }

@@ -127,6 +127,8 @@ pub record OfCutting : Type 0 where
   pub room-for-one-less : cutFrom four-built (replicate 5 0) ≡ answer 2 → ⊥
   -- the checker takes a rotated triple: (0,1,3) for (3,0,1)
   pub rotated : four-checked (0 ∷ 1 ∷ 3 ∷ 1 ∷ 2 ∷ 3 ∷ []) ≡ answer 1 → ⊥
+  -- it looks at one neighbour only: (3,0,2) for (3,0,1)
+  pub one-neighbour : four-checked (3 ∷ 0 ∷ 2 ∷ 1 ∷ 2 ∷ 3 ∷ []) ≡ answer 1 → ⊥
   -- it takes n - 1 triples
   pub triple-too-many : four-checked (3 ∷ 0 ∷ 1 ∷ 1 ∷ 2 ∷ 3 ∷ 1 ∷ 2 ∷ 3 ∷ []) ≡ answer 1 → ⊥
   -- it takes any corner for an ear: corner 1 is reflex

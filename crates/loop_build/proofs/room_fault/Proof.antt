@@ -1,3 +1,4 @@
+-- Refusal 5 is given exactly where three corners or more lack room in one of the three slices.
 use Rattle.loop_build.specs.Build.{roomFault}
 use borrow.Author.Needs.{needs}
 use Rattle.loop_build.proofs.room_fault.Statement.{statement}

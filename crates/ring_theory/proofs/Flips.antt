@@ -5,7 +5,7 @@ use mathlib.Core.Bool.{cond}
 use mathlib.Core.List.{List, [], _∷_}
 use native.Mathlib.Nat.{add-comm}
 use lib.Dec.{eqb}
-use Rattle.ring_theory.specs.Demand3.{passes, lies, holders}
+use Rattle.ring_theory.specs.Demand3.{passes, lies, holders, Inner}
 
 lies-flip : (u v a b c : ℕ) → lies u v a b c ≡ lies v u a b c
 unfolding lies
@@ -17,3 +17,6 @@ holders-flip u v [] = refl
 holders-flip u v (a ∷ []) = refl
 holders-flip u v (a ∷ b ∷ []) = refl
 holders-flip u v (a ∷ b ∷ c ∷ rest) = ap₂ _+_ (lies-flip u v a b c) (holders-flip u v rest)
+
+pub inner-flip : {n u v : ℕ} {tris : List ℕ} → Inner n tris u v → Inner n tris v u
+inner-flip {u = u} {v = v} {tris = tris} i = record { side = rw (holders-flip v u tris) (i .side); not-ahead = i .not-back; not-back = i .not-ahead }

@@ -101,7 +101,7 @@ pub fn signed(down: bool, r: f64) -> f64
     if down { -r } else { r }
 }
 
-// The angle of (x, y) from the positive x axis, from -WHOLE to PI.
+// The angle of (x, y) from the positive x axis, from -PI to PI.
 pub fn atan2(y: f64, x: f64) -> f64
     ensures { λ r. ⌜ r ≡ Atn.atan2 y x ⌝ }
 {

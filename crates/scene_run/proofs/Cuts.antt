@@ -80,7 +80,8 @@ module _ (l : List Float) (d : Doubles l) (used : ℕ) (ps ns : List Float) (cs 
         let y : triangulateOutcome (fullHeader (weak (turnSum l n))) [] [] blank .answer ≡ refused k = rw (same e) at z in
         answered 20 k (full-is (weak (turnSum l n))) y
     of-made false r n o g f ns′ e z =
-        let y : triangulateOutcome (ringHeader l n r) (take (3 * n) (drop (3 * used) (take (3 * used) ps ++ (ringOf l n r ++ drop (3 * n) (drop (3 * used) ps))))) (take n (drop used (take used cs ++ (classesOf l n r ++ drop n (drop used cs))))) blank .answer ≡ refused k = rw (same e) at z in
+        let y : triangulateOutcome (ringHeader l n r) (take (3 * n) (drop (3 * used) (take (3 * used) ps ++ (ringOf l n r ++ drop (3 * n) (drop (3 * used) ps)))))
+        (take n (drop used (take used cs ++ (classesOf l n r ++ drop n (drop used cs))))) blank .answer ≡ refused k = rw (same e) at z in
         let u = part (3 * used) (3 * n) (take (3 * used) ps) (ringOf l n r) (drop (3 * n) (drop (3 * used) ps)) (length-take-le (3 * used) ps p) (size (cornerAt l n r) n) in
         let v = part used n (take used cs) (classesOf l n r) (drop n (drop used cs)) (length-take-le used cs c) (codes-count l n r) in
         ring-eight r n o g f (rw (u, v) at y)

@@ -34,7 +34,8 @@ use Rattle.scene_steps.specs.Steps.{Step, faulty, refused, areaMade, are
 use Rattle.scene_store.proofs.Counts.{built-count}
 
 -- an area that was met lies in the store
-pub lies : {s : List ℕ} {w : Scene} → Good s w → Sized (length (w .positions)) (length (w .normals)) (length (w .classes)) → (i : ℕ) → i < length (w .areas) → Lies (getD (w .areas) i nobody) (w .positions) (w .normals) (w .classes)
+pub lies : {s : List ℕ} {w : Scene} → Good s w → Sized (length (w .positions)) (length (w .normals)) (length (w .classes)) → (i : ℕ) → i < length (w .areas)
+    → Lies (getD (w .areas) i nobody) (w .positions) (w .normals) (w .classes)
 lies g z i h = record {
   ends = omega (arith, g .inside i h, g .used-given, g .given-most);
   positions-size = z .of-positions;

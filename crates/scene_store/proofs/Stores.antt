@@ -41,13 +41,16 @@ module _ (ps ns : List Float) (cs : List ℕ) {t : Told} where
   paired a b e = rw (three (a .start) (a .header .count), one (a .start) (a .header .count), three (b .start) (b .header .count), one (b .start) (b .header .count)) at e
 
 -- an area cut
-pub cut : {t : Told} {l : List ℕ} {r : ℕ} (a : Area) (ps : List Float) (cs b : List ℕ) → record { answer = t; triangles = l } ≡ triangulateOutcome (a .header) (threes a ps) (ones a cs) b → b ≡ blank → r ≡ counted t → r ≡ triangleCount a ps cs
+pub cut : {t : Told} {l : List ℕ} {r : ℕ} (a : Area) (ps : List Float) (cs b : List ℕ)
+    → record { answer = t; triangles = l } ≡ triangulateOutcome (a .header) (threes a ps) (ones a cs) b
+    → b ≡ blank → r ≡ counted t → r ≡ triangleCount a ps cs
 unfolding triangleCount
 cut a ps cs b e q h = h ∙ ap (λ (o : Cut.Outcome). counted (o .answer)) (rw (three (a .start) (a .header .count), one (a .start) (a .header .count), q) at e)
 
 -- what a build left in the rest
 pub built : {l : List Float} {a : B.Told} {ps′ ns′ : List Float} {cs′ : List ℕ} (f : List Float) (used : ℕ) (ps ns : List Float) (cs : List ℕ) → l ≡ f
-    → record { answer = a; positions = ps′; normals = ns′; classes = cs′ } ≡ buildOutcome l (take (length ps - 3 * used) (drop (3 * used) ps)) (take (length ns - 3 * used) (drop (3 * used) ns)) (take (length cs - used) (drop used cs))
+    → record { answer = a; positions = ps′; normals = ns′; classes = cs′ }
+    ≡ buildOutcome l (take (length ps - 3 * used) (drop (3 * used) ps)) (take (length ns - 3 * used) (drop (3 * used) ns)) (take (length cs - used) (drop used cs))
     → record {
       answer = a;
       positions = take (3 * used) ps ++ (ps′ ++ drop (length ps - 3 * used) (drop (3 * used) ps));

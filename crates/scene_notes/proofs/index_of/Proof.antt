@@ -1,3 +1,4 @@
+-- The areas met are looked through from the first: the index of the first of that number, or how many there are.
 use Prim.Native.Nat.{_-_, _≤_}
 use native.Mathlib.Omega.{arith}
 use lib.ListN.{length, take}
@@ -15,17 +16,36 @@ Inv-loop number met areas i₀ i = (met ≤ 16) × (met ≤ length areas) × Loo
 abbrev μ-loop : tie.MeasureT-loop
 μ-loop number met areas i₀ i = met - i
 
+loop-holds : tie.Need-loop-holds Inv-loop μ-loop
+loop-holds c =
+    let start = c .before in
+    let fits : start .args .c .met ≤ length (start .args .c .areas) = omega (arith, start .pre .size, start .pre .few) in
+    (start .pre .few, fits, looks _ _ _ fits)
+
+returns-found : tie.Need-returns Inv-loop μ-loop
+returns-found c =
+    let turn = c .before in
+    let inv = turn .before .loop .inv in
+    let entry = has-is _ _ _ _ _ (turn .loop-test .taken) (inv .1) in
+    (look-hit (inv .2) entry (turn .loop-test .taken) (eq-eqb _ _ (c .if1 .taken)), search needs)
+
+loop-again : tie.Need-loop-again Inv-loop μ-loop
+loop-again c =
+    let turn = c .before in
+    let inv = turn .before .loop .inv in
+    let entry = has-is _ _ _ _ _ (turn .loop-test .taken) (inv .1) in
+    (inv .0, inv .1, look-on (inv .2) entry (turn .loop-test .taken) (ne-eqb _ _ (c .if1 .left)))
+
 pub index-of-spec : {M : Type 1} → statement M
 index-of-spec =
     tie.close
     (tie.spec
     Inv-loop μ-loop
-    (λ c. let h : c .before .args .c .met ≤ length (c .before .args .c .areas) = omega (arith, c .before .pre .size, c .before .pre .few) in
-    (c .before .pre .few, h, looks _ _ _ h))
+    loop-holds
     (λ c. search needs)
     (λ c. search needs)
-    (λ c. (look-hit (c .before .before .loop .inv .2) (has-is _ _ _ _ _ (c .before .loop-test .taken) (c .before .before .loop .inv .1)) (c .before .loop-test .taken) (eq-eqb _ _ (c .if1 .taken)), search needs))
+    returns-found
     (λ c. search needs)
     (λ c. search needs)
-    (λ c. (c .before .before .loop .inv .0, c .before .before .loop .inv .1, look-on (c .before .before .loop .inv .2) (has-is _ _ _ _ _ (c .before .loop-test .taken) (c .before .before .loop .inv .1)) (c .before .loop-test .taken) (ne-eqb _ _ (c .if1 .left))))
+    loop-again
     (λ c. (look-end (c .before .loop .inv .2) (c .loop-test .left), search needs)))

@@ -1,3 +1,4 @@
+-- Record after record is taken and its line written: what is written so far, with the text from here on, is always the whole text (`Going`).
 use Prim.Native.Nat.{_-_}
 use native.Mathlib.Omega.{arith}
 use lib.ListN.{length}
@@ -15,6 +16,57 @@ Inv-loop s positions₀ normals₀ classes₀ out₀ c₀ written₀ positions n
 abbrev μ-loop : tie.MeasureT-loop
 μ-loop s positions₀ normals₀ classes₀ out₀ c₀ written₀ positions normals classes out c written = length s - c .at
 
+-- the places of a turn: the line as told, the record as stepped
+abbrev told : tie.After-goes-on Inv-loop μ-loop → tie.After-line-of Inv-loop μ-loop
+told c = c .before .before .before .before
+
+abbrev stepped : tie.After-line-of Inv-loop μ-loop → tie.After-step Inv-loop μ-loop
+stepped c = c .before .before .before .before .before .before .before .before
+
+put-line-requires : tie.Need-put-line-requires Inv-loop μ-loop
+put-line-requires c κs =
+    let going = stepped c .before .before .before .before .loop .inv in
+    let good = going .ready .good in
+    omega (arith, going .bound, going .room, good .within, good .small, good .few)
+
+returns-text : tie.Need-returns Inv-loop μ-loop
+returns-text c =
+    let asked = c .before in
+    let put = asked .before .before .before .put-line .ensures in
+    let line = told asked .line-of in
+    let step = stepped (told asked) .step in
+    let store = step .last .1 .1 in
+    let going = stepped (told asked) .before .before .before .before .loop .inv in
+    let good = going .ready .good in (
+      ends going (step .result) (store .0) (store .1 .0) (store .1 .1 .0) (step .ensures .0) (line .ensures) (put .0)
+          (asked .goes-on .ensures) (not-true (asked .goes-on .result) (c .if1 .taken)),
+      omega (arith, put .1, longest (line .result), going .bound, good .within, good .small, good .few),
+    )
+
+loop-less : tie.Need-loop-less Inv-loop μ-loop
+loop-less c =
+    let asked = c .before .before in
+    let put = asked .before .before .before .put-line .ensures in
+    let line = told asked .line-of in
+    let step = stepped (told asked) .step in
+    let store = step .last .1 .1 in
+    let going = stepped (told asked) .before .before .before .before .loop .inv in
+    let onward = after going (step .result) (store .0) (store .1 .0) (store .1 .1 .0) (step .ensures .0) (line .ensures) (put .0)
+    (asked .goes-on .ensures) (not-false (asked .goes-on .result) (c .before .if1 .left)) in
+    omega (arith, onward .forth, onward .good .within)
+
+loop-again : tie.Need-loop-again Inv-loop μ-loop
+loop-again c =
+    let asked = c .before .before in
+    let put = asked .before .before .before .put-line .ensures in
+    let line = told asked .line-of in
+    let step = stepped (told asked) .step in
+    let store = step .last .1 .1 in
+    let going = stepped (told asked) .before .before .before .before .loop .inv in
+    on going (step .result) (store .0) (store .1 .0) (store .1 .1 .0) (step .ensures .0) (line .ensures) (put .0)
+    (asked .goes-on .ensures) (not-false (asked .goes-on .result) (c .before .if1 .left))
+    (step .ensures .1) (put .1) (search needs) (search needs) (search needs) (search needs)
+
 pub run-in-spec : {M : Type 1} → statement M
 run-in-spec =
     tie.close
@@ -24,14 +76,9 @@ run-in-spec =
     (λ c. begin _ _ _ _ _ (c .before .before .before .before .before .before .pre) (c .fresh .ensures))
     (λ c κs. c .before .before .before .loop .inv .ready)
     (λ c κs. search needs)
-    (λ c κs. let g = c .before .before .before .before .before .before .before .before .before .before .before .before .loop .inv in
-    omega (arith, g .bound, g .room, g .ready .good .within, g .ready .good .small, g .ready .good .few))
+    put-line-requires
     (λ c κs. search needs)
     (λ c. search needs) (λ c. search needs) (λ c. search needs) (λ c. search needs)
-    (λ c. let g = c .before .before .before .before .before .before .before .before .before .before .before .before .before .before .before .before .before .loop .inv in (
-      ends g (c .before .before .before .before .before .before .before .before .before .before .before .before .before .step .result) (c .before .before .before .before .before .before .before .before .before .before .before .before .before .step .last .1 .1 .0) (c .before .before .before .before .before .before .before .before .before .before .before .before .before .step .last .1 .1 .1 .0) (c .before .before .before .before .before .before .before .before .before .before .before .before .before .step .last .1 .1 .1 .1 .0) (c .before .before .before .before .before .before .before .before .before .before .before .before .before .step .ensures .0) (c .before .before .before .before .before .line-of .ensures) (c .before .before .before .before .put-line .ensures .0) (c .before .goes-on .ensures) (not-true (c .before .goes-on .result) (c .if1 .taken)),
-      omega (arith, c .before .before .before .before .put-line .ensures .1, longest (c .before .before .before .before .before .line-of .result), g .bound, g .ready .good .within, g .ready .good .small, g .ready .good .few),
-    ))
-    (λ c. let a = after (c .before .before .before .before .before .before .before .before .before .before .before .before .before .before .before .before .before .before .loop .inv) (c .before .before .before .before .before .before .before .before .before .before .before .before .before .before .step .result) (c .before .before .before .before .before .before .before .before .before .before .before .before .before .before .step .last .1 .1 .0) (c .before .before .before .before .before .before .before .before .before .before .before .before .before .before .step .last .1 .1 .1 .0) (c .before .before .before .before .before .before .before .before .before .before .before .before .before .before .step .last .1 .1 .1 .1 .0) (c .before .before .before .before .before .before .before .before .before .before .before .before .before .before .step .ensures .0) (c .before .before .before .before .before .before .line-of .ensures) (c .before .before .before .before .before .put-line .ensures .0) (c .before .before .goes-on .ensures) (not-false (c .before .before .goes-on .result) (c .before .if1 .left)) in
-    omega (arith, a .forth, a .good .within))
-    (λ c. on (c .before .before .before .before .before .before .before .before .before .before .before .before .before .before .before .before .before .before .loop .inv) (c .before .before .before .before .before .before .before .before .before .before .before .before .before .before .step .result) (c .before .before .before .before .before .before .before .before .before .before .before .before .before .before .step .last .1 .1 .0) (c .before .before .before .before .before .before .before .before .before .before .before .before .before .before .step .last .1 .1 .1 .0) (c .before .before .before .before .before .before .before .before .before .before .before .before .before .before .step .last .1 .1 .1 .1 .0) (c .before .before .before .before .before .before .before .before .before .before .before .before .before .before .step .ensures .0) (c .before .before .before .before .before .before .line-of .ensures) (c .before .before .before .before .before .put-line .ensures .0) (c .before .before .goes-on .ensures) (not-false (c .before .before .goes-on .result) (c .before .if1 .left)) (c .before .before .before .before .before .before .before .before .before .before .before .before .before .before .step .ensures .1) (c .before .before .before .before .before .put-line .ensures .1) (search needs) (search needs) (search needs) (search needs)))
+    returns-text
+    loop-less
+    loop-again)

@@ -1,18 +1,50 @@
+-- An area that may come in is built into the rest of the store: a refusal of the build ends the step, a loop's line and its notes follow from `area_line`.
 use Rattle.scene_steps.proofs.Steps.{room, area-refused, addable, new-lies, area-looped}
 use Rattle.scene_notes.proofs.Tables.{kept-added}
 use borrow.Author.Needs.{needs}
 use Rattle.scene_steps.proofs.area_made.Statement.{statement}
 use Rattle.scene_steps.proofs.area_made.Tie as tie
 
+build-area-requires : tie.Need-build-area-requires
+build-area-requires c κs = let given = c .before .before .before .before .before .before .before .before .pre in room _ _ (given .0) (given .1)
+
+area-line-requires : tie.Need-area-line-requires
+area-line-requires c κs =
+    let looped = c .before .before .before .before in
+    let at-build = looped .before .before .before .before .before .before .before .before in
+    let built = at-build .build-area .ensures in
+    let header = looped .h .given .1 in
+    let given = at-build .before .before .before .before .before .before .before .before .before .pre in (
+      new-lies _ _ (given .0) (given .1) built header (search needs) (search needs) (search needs),
+      addable _ _ (given .0) (given .1) built header,
+    )
+
+returns-refused : tie.Need-returns
+returns-refused c =
+    let at-build = c .before .before .before .before .before .before .before .before .before in
+    let given = at-build .before .before .before .before .before .before .before .before .before .pre in
+    (area-refused _ _ (given .0) (given .1) (at-build .build-area .ensures) (c .before .k .given .1), given .0 .kept)
+
+returns-looped : tie.Need-returns-2
+returns-looped c =
+    let looped = c .before .before .before .before .before in
+    let at-build = looped .before .before .before .before .before .before .before .before in
+    let built = at-build .build-area .ensures in
+    let header = looped .h .given .1 in
+    let given = at-build .before .before .before .before .before .before .before .before .before .pre in (
+      area-looped _ _ (given .0) (given .1) built header (c .area-line .ensures),
+      rw (c .area-line .ensures) (kept-added (given .0 .kept) (addable _ _ (given .0) (given .1) built header)),
+    )
+
 pub area-made-spec : {M : Type 1} → statement M
 area-made-spec =
     tie.close
     (tie.spec
     (λ c. search needs)
-    (λ c κs. room _ _ (c .before .before .before .before .before .before .before .before .pre .0) (c .before .before .before .before .before .before .before .before .pre .1))
+    build-area-requires
     (λ c. search needs) (λ c. search needs)
-    (λ c κs. (new-lies _ _ (c .before .before .before .before .before .before .before .before .before .before .before .before .before .before .before .before .before .before .before .before .before .pre .0) (c .before .before .before .before .before .before .before .before .before .before .before .before .before .before .before .before .before .before .before .before .before .pre .1) (c .before .before .before .before .before .before .before .before .before .before .before .before .build-area .ensures) (c .before .before .before .before .h .given .1) (search needs) (search needs) (search needs), addable _ _ (c .before .before .before .before .before .before .before .before .before .before .before .before .before .before .before .before .before .before .before .before .before .pre .0) (c .before .before .before .before .before .before .before .before .before .before .before .before .before .before .before .before .before .before .before .before .before .pre .1) (c .before .before .before .before .before .before .before .before .before .before .before .before .build-area .ensures) (c .before .before .before .before .h .given .1)))
+    area-line-requires
     (λ c. search needs) (λ c. search needs) (λ c. search needs)
-    (λ c. (area-refused _ _ (c .before .before .before .before .before .before .before .before .before .before .before .before .before .before .before .before .before .before .pre .0) (c .before .before .before .before .before .before .before .before .before .before .before .before .before .before .before .before .before .before .pre .1) (c .before .before .before .before .before .before .before .before .before .build-area .ensures) (c .before .k .given .1), c .before .before .before .before .before .before .before .before .before .before .before .before .before .before .before .before .before .before .pre .0 .kept))
+    returns-refused
     (λ c. search needs) (λ c. search needs) (λ c. search needs)
-    (λ c. (area-looped _ _ (c .before .before .before .before .before .before .before .before .before .before .before .before .before .before .before .before .before .before .before .before .before .before .pre .0) (c .before .before .before .before .before .before .before .before .before .before .before .before .before .before .before .before .before .before .before .before .before .before .pre .1) (c .before .before .before .before .before .before .before .before .before .before .before .before .before .build-area .ensures) (c .before .before .before .before .before .h .given .1) (c .area-line .ensures), rw (c .area-line .ensures) (kept-added (c .before .before .before .before .before .before .before .before .before .before .before .before .before .before .before .before .before .before .before .before .before .before .pre .0 .kept) (addable _ _ (c .before .before .before .before .before .before .before .before .before .before .before .before .before .before .before .before .before .before .before .before .before .before .pre .0) (c .before .before .before .before .before .before .before .before .before .before .before .before .before .before .before .before .before .before .before .before .before .before .pre .1) (c .before .before .before .before .before .before .before .before .before .before .before .before .before .build-area .ensures) (c .before .before .before .before .before .h .given .1))))))
+    returns-looped)

@@ -16,7 +16,7 @@ Inv-loop s positions₀ normals₀ classes₀ out₀ c₀ written₀ positions n
 abbrev μ-loop : tie.MeasureT-loop
 μ-loop s positions₀ normals₀ classes₀ out₀ c₀ written₀ positions normals classes out c written = length s - c .at
 
--- the places of a turn: the line as told, the record as stepped
+-- what an iteration has come past: the line as told, the record as stepped
 abbrev told : tie.After-goes-on Inv-loop μ-loop → tie.After-line-of Inv-loop μ-loop
 told c = c .before .before .before .before
 

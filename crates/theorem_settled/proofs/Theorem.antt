@@ -30,7 +30,13 @@ unfolding opened
 openings a b c e = record { one = simp e; closed-once = simp e; closed-twice = simp e }
 
 pub settled : Settled
-unfolding relateAnswer pairFault loopFault vectorsFault capFault byStates byCaps intersects acceptsAnswer checkFault accepted accepts fitsAt sameNumbers triangulateOutcome cutFault shapeFault threesOf ringFault classesFault ringOutcome cutRingOutcome cutting firstAt blocks ear reclassify reclassifyBoth cutAt insideOrEdge isCorner fitsEdges edgeSide fits sideOf signOf retestOf buildOutcome refusal listFault roomFault firstOf faultOf vectorFault opened made allBoth anyOf flat classAt classBy normalAt reversal turnSum iterate turnAt sineOf atan2 quadrant acute sumOf size edgeNormal ringHeader orthogonalTo unitVec axisFor abs rootOf add sub mul div neg lt le eq ofBits
+unfolding relateAnswer pairFault loopFault vectorsFault capFault byStates byCaps intersects
+    acceptsAnswer checkFault accepted accepts fitsAt sameNumbers
+    triangulateOutcome cutFault shapeFault threesOf ringFault classesFault ringOutcome cutRingOutcome
+    cutting firstAt blocks ear reclassify reclassifyBoth cutAt insideOrEdge isCorner fitsEdges edgeSide fits sideOf signOf retestOf
+    buildOutcome refusal listFault roomFault firstOf faultOf vectorFault opened made allBoth anyOf flat classAt classBy normalAt reversal
+    turnSum iterate turnAt sineOf atan2 quadrant acute sumOf size edgeNormal ringHeader
+    orthogonalTo unitVec axisFor abs rootOf add sub mul div neg lt le eq ofBits
 settled = record {
   left = refl;
   right = refl;

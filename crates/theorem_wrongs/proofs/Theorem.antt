@@ -59,7 +59,15 @@ above : (m n k : ℕ) → n + k + 1 ≡ m → m ≡ n → ⊥
 above m n k d e = omega (arith, d, e)
 
 pub wrongs : Wrongs
-unfolding insidesFor hasVertex unit sides nest grown boundingCap fromSquaredLength joined sum laterMax metAt crossedEvenly insideBy placeAnswer queryFault placeWithout inTriangle relateAnswer pairFault loopFault vectorsFault capFault byStates byCaps intersects acceptsAnswer checkFault accepted accepts fitsAt sameNumbers triangulateOutcome cutFault shapeFault threesOf ringFault classesFault ringOutcome cutRingOutcome cutting firstAt blocks ear reclassify reclassifyBoth cutAt insideOrEdge isCorner fitsEdges edgeSide fits sideOf signOf retestOf buildOutcome refusal listFault roomFault firstOf faultOf vectorFault opened made allBoth anyOf flat classAt classBy normalAt reversal turnSum iterate turnAt sineOf atan2 quadrant acute sumOf size edgeNormal ringHeader orthogonalTo unitVec axisFor abs rootOf add sub mul div neg lt le eq ofBits
+unfolding insidesFor hasVertex unit sides nest grown boundingCap fromSquaredLength joined sum laterMax
+    metAt crossedEvenly insideBy placeAnswer queryFault placeWithout inTriangle
+    relateAnswer pairFault loopFault vectorsFault capFault byStates byCaps intersects
+    acceptsAnswer checkFault accepted accepts fitsAt sameNumbers
+    triangulateOutcome cutFault shapeFault threesOf ringFault classesFault ringOutcome cutRingOutcome
+    cutting firstAt blocks ear reclassify reclassifyBoth cutAt insideOrEdge isCorner fitsEdges edgeSide fits sideOf signOf retestOf
+    buildOutcome refusal listFault roomFault firstOf faultOf vectorFault opened made allBoth anyOf flat classAt classBy normalAt reversal
+    turnSum iterate turnAt sineOf atan2 quadrant acute sumOf size edgeNormal ringHeader
+    orthogonalTo unitVec axisFor abs rootOf add sub mul div neg lt le eq ofBits
 wrongs = record {
   refuses-each-list = λ k e. above 1 0 0 refl (ap kind e);
   outside-always = other _ 1 0 (above 1 0 0 refl) refl;

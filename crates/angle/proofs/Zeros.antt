@@ -52,7 +52,11 @@ not-below a u v = is-false (ltb a (0 * u * v)) (λ (t : T (ltb a (0 * u * v))). 
 flat : (e : ℤ) (n : ℕ) (d : ℤ) → A.quadrant (fin false 0 e) (fin false (suc n) d) ≡ fin false 0 (pos 0)
 unfolding A.quadrant lt
 flat e n d =
-    ap (λ (b : Bool). cond b (A.acute (div binary64 (fin false 0 e) (fin false (suc n) d))) (cond (ltb (suc n * up d * down e) (0 * up e * down d)) (F._⊖_ A.FRAC-PI-2 (A.acute (div binary64 (fin false (suc n) d) (fin false 0 e)))) (cond (eq (fin false 0 e) F.zero) F.zero (cond (eq (fin false 0 e) (fin false (suc n) d)) A.FRAC-PI-4 (F._⊕_ (fin false 0 e) (fin false (suc n) d)))))) (below e n d)
+    ap
+    (λ (b : Bool). cond b (A.acute (div binary64 (fin false 0 e) (fin false (suc n) d)))
+    (cond (ltb (suc n * up d * down e) (0 * up e * down d)) (F._⊖_ A.FRAC-PI-2 (A.acute (div binary64 (fin false (suc n) d) (fin false 0 e))))
+    (cond (eq (fin false 0 e) F.zero) F.zero (cond (eq (fin false 0 e) (fin false (suc n) d)) A.FRAC-PI-4 (F._⊕_ (fin false 0 e) (fin false (suc n) d))))))
+    (below e n d)
     ∙ ap A.acute (zero-over e n d) ∙ acute-zero
 
 standing : (m : ℕ) (e d : ℤ) → A.quadrant (fin false (suc m) e) (fin false 0 d) ≡ A.FRAC-PI-2

@@ -70,7 +70,9 @@ sound ps (suc k) s (a ∷ b ∷ []) n e = absurd (true≢false (sym e))
 sound ps (suc k) s (a ∷ b ∷ c ∷ rest) n e = go (fitsAt ps s (indexOf (s .ids) b) a c) refl (λ p q. sound ps k (cutAt ps s (indexOf (s .ids) b)) rest p q)
   where
     go : (f : Bool) → fitsAt ps s (indexOf (s .ids) b) a c ≡ f
-        → (length (cutAt ps s (indexOf (s .ids) b) .ids) ≡ k + 3 → accepts ps k (cutAt ps s (indexOf (s .ids) b)) rest ≡ true → CutBy ps (Eligible ps) (cutAt ps s (indexOf (s .ids) b)) rest) → CutBy ps (Eligible ps) s (a ∷ b ∷ c ∷ rest)
+        → (length (cutAt ps s (indexOf (s .ids) b) .ids) ≡ k + 3 → accepts ps k (cutAt ps s (indexOf (s .ids) b)) rest ≡ true
+        → CutBy ps (Eligible ps) (cutAt ps s (indexOf (s .ids) b)) rest)
+        → CutBy ps (Eligible ps) s (a ∷ b ∷ c ∷ rest)
     go false f on = absurd (true≢false (sym e ∙ accepts-off ps k s a b c rest refl f))
     go true f on =
         let t = fits ps s (indexOf (s .ids) b) a c f in

@@ -34,14 +34,18 @@ abbrev pub convex : List ℕ
 convex = 0 ∷ 0 ∷ 0 ∷ 0 ∷ []
 
 pub cut-four : cuttingOf four convex ≡ record { triangles = 3 ∷ 0 ∷ 1 ∷ 1 ∷ 2 ∷ 3 ∷ []; stuck = false }
-unfolding cutting firstAt anyOf flat blocks ear reclassify reclassifyBoth cutAt insideOrEdge isCorner fitsEdges edgeSide fits sideOf signOf retestOf orthogonalTo unitVec axisFor abs rootOf add sub mul div neg lt le eq ofBits
+unfolding cutting firstAt anyOf flat blocks ear reclassify reclassifyBoth cutAt insideOrEdge
+    isCorner fitsEdges edgeSide fits sideOf signOf retestOf orthogonalTo unitVec axisFor abs rootOf add sub mul div neg lt le eq ofBits
 cut-four = refl
 
 pub also-accepted : (accepted four convex (3 ∷ 0 ∷ 1 ∷ 1 ∷ 2 ∷ 3 ∷ []) ≡ true) × (accepted four convex (0 ∷ 1 ∷ 2 ∷ 0 ∷ 2 ∷ 3 ∷ []) ≡ true)
-unfolding accepted accepts fitsAt sameNumbers firstAt anyOf flat blocks ear reclassify reclassifyBoth cutAt insideOrEdge isCorner fitsEdges edgeSide fits sideOf signOf retestOf orthogonalTo unitVec axisFor abs rootOf add sub mul div neg lt le eq ofBits
+unfolding accepted accepts fitsAt sameNumbers firstAt anyOf flat blocks ear reclassify reclassifyBoth cutAt insideOrEdge
+    isCorner fitsEdges edgeSide fits sideOf signOf retestOf orthogonalTo unitVec axisFor abs rootOf add sub mul div neg lt le eq ofBits
 also-accepted = (refl, refl)
 
 -- (3,0,1) rotated either way, the last triple rotated, a triple too few, and a number outside the ring
-pub rejected : (accepted four convex (0 ∷ 1 ∷ 3 ∷ 1 ∷ 2 ∷ 3 ∷ []) ≡ false) × (accepted four convex (1 ∷ 3 ∷ 0 ∷ 1 ∷ 2 ∷ 3 ∷ []) ≡ false) × (accepted four convex (3 ∷ 0 ∷ 1 ∷ 2 ∷ 3 ∷ 1 ∷ []) ≡ false) × (accepted four convex (0 ∷ 1 ∷ 2 ∷ []) ≡ false) × (accepted four convex (0 ∷ 1 ∷ 9 ∷ 1 ∷ 2 ∷ 3 ∷ []) ≡ false)
-unfolding accepted accepts fitsAt sameNumbers firstAt anyOf flat blocks ear reclassify reclassifyBoth cutAt insideOrEdge isCorner fitsEdges edgeSide fits sideOf signOf retestOf orthogonalTo unitVec axisFor abs rootOf add sub mul div neg lt le eq ofBits
+pub rejected : (accepted four convex (0 ∷ 1 ∷ 3 ∷ 1 ∷ 2 ∷ 3 ∷ []) ≡ false) × (accepted four convex (1 ∷ 3 ∷ 0 ∷ 1 ∷ 2 ∷ 3 ∷ []) ≡ false)
+    × (accepted four convex (3 ∷ 0 ∷ 1 ∷ 2 ∷ 3 ∷ 1 ∷ []) ≡ false) × (accepted four convex (0 ∷ 1 ∷ 2 ∷ []) ≡ false) × (accepted four convex (0 ∷ 1 ∷ 9 ∷ 1 ∷ 2 ∷ 3 ∷ []) ≡ false)
+unfolding accepted accepts fitsAt sameNumbers firstAt anyOf flat blocks ear reclassify reclassifyBoth cutAt insideOrEdge
+    isCorner fitsEdges edgeSide fits sideOf signOf retestOf orthogonalTo unitVec axisFor abs rootOf add sub mul div neg lt le eq ofBits
 rejected = (refl, refl, refl, refl, refl)

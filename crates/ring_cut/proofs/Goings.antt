@@ -93,5 +93,6 @@ module _ {ps : List Float} {ids₀ classes₀ apart₀ tris₀ ids classes apart
       let none : m - 3 ≡ 0 = omega arith in
       let size : length (g .done ++ take m ids) ≡ 3 * (t + 1) = rw (length-append, g .done-size, g .held .sized) (omega arith) in
       let are : tris′ ≡ (g .done ++ take m ids) ++ drop (3 * (t + 1)) tris₀ =
-      u ∙ ap (λ (v : List ℕ). sets tris (3 * t) v) (whole-three (take m ids) (g .held .sized ∙ three)) ∙ rw (g .tris-are) (lay t (g .done) tris₀ (take m ids) (g .done-size) (g .held .sized ∙ three) (omega (arith, g .room, g .count))) in
+      u ∙ ap (λ (v : List ℕ). sets tris (3 * t) v) (whole-three (take m ids) (g .held .sized ∙ three))
+      ∙ rw (g .tris-are) (lay t (g .done) tris₀ (take m ids) (g .done-size) (g .held .sized ∙ three) (omega (arith, g .room, g .count))) in
       rw (g .rest, none, cutting-end ps (left ids classes m), size) (ap (λ (l : List ℕ). record { answer = true; out = l }) are)

@@ -43,7 +43,9 @@ at-lowest ps zero s e h = rw (cutting-end ps s) (last {s = s} (omega arith))
 at-lowest ps (suc k) s e h = go (decLt (lowestOf ps s) (length (s .ids))) (λ a b. at-lowest ps k (cutAt ps s (lowestOf ps s)) a b)
   where
     go : Dec (lowestOf ps s < length (s .ids))
-        → (length (cutAt ps s (lowestOf ps s) .ids) ≡ k + 3 → cutting ps k (cutAt ps s (lowestOf ps s)) .stuck ≡ false → CutBy ps (Lowest ps) (cutAt ps s (lowestOf ps s)) (cutting ps k (cutAt ps s (lowestOf ps s)) .triangles)) → CutBy ps (Lowest ps) s (cutting ps (suc k) s .triangles)
+        → (length (cutAt ps s (lowestOf ps s) .ids) ≡ k + 3 → cutting ps k (cutAt ps s (lowestOf ps s)) .stuck ≡ false
+        → CutBy ps (Lowest ps) (cutAt ps s (lowestOf ps s)) (cutting ps k (cutAt ps s (lowestOf ps s)) .triangles))
+        → CutBy ps (Lowest ps) s (cutting ps (suc k) s .triangles)
     go (yes p) on =
         let t = cutting-on ps k s refl p in
         let h′ : cutting ps k (cutAt ps s (lowestOf ps s)) .stuck ≡ false = sym (ap (λ (c : Cutting). c .stuck) t) ∙ h in

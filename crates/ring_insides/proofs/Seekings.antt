@@ -83,7 +83,12 @@ module _ {ps : List Float} {ids₀ classes₀ apart₀ ids classes apart : List 
             → Seeking ps ids₀ classes₀ apart₀ ids′ classes′ apart′ k′ (m - 1) f′
         cut l o r =
             let h = found (g .held) e ne in
-            record { held = cut-held (g .held) h more q p kept also; listing = list-on (g .listing) (ids-left (g .held) h more q p kept also) (omega (arith, g .held .sized, cut-held (g .held) h more q p kept also .sized)) l o r; rest = rw (cut-left (g .held) h more q p kept also) on }
+            let size = cut-held (g .held) h more q p kept also .sized in
+            record {
+              held = cut-held (g .held) h more q p kept also;
+              listing = list-on (g .listing) (ids-left (g .held) h more q p kept also) (omega (arith, g .held .sized, size)) l o r;
+              rest = rw (cut-left (g .held) h more q p kept also) on;
+            }
 
   -- the mean of the last triangle
   pub finish : {f′ : Found} → m ≤ 3 → f′ ≡ withMean f (meanOf (triangleAt ps (take m ids) 1)) → f′ ≡ meansFrom ps (record { ids = ids₀; classes = classes₀ })

@@ -18,5 +18,6 @@ abbrev hourglass : List Float
 hourglass = F.zero ∷ neg a ∷ b ∷ F.zero ∷ a ∷ b ∷ neg a ∷ F.zero ∷ b ∷ a ∷ F.zero ∷ b ∷ []
 
 shapes : (convex square 4 ≡ true) × (simple square (normals square) 4 ≡ true) × (convex hourglass 4 ≡ false) × (simple hourglass (normals hourglass) 4 ≡ false)
-unfolding normals convex anySide sideAt simple anyWithoutCircle noCircle anyMeetsLater meetsLater edgesMeet endOf anyOf edgeAt meetingOf meetingIn nearer locationOf sideOf signOf retestOf orthogonalTo unitVec axisFor abs rootOf add sub mul div neg lt le eq ofBits
+unfolding normals convex anySide sideAt simple anyWithoutCircle noCircle anyMeetsLater meetsLater edgesMeet endOf
+    anyOf edgeAt meetingOf meetingIn nearer locationOf sideOf signOf retestOf orthogonalTo unitVec axisFor abs rootOf add sub mul div neg lt le eq ofBits
 shapes = (refl, refl, refl, refl)

@@ -25,6 +25,7 @@ met : Demand3 4 (3 ∷ 0 ∷ 1 ∷ 1 ∷ 2 ∷ 3 ∷ [])
 met = demand-3 4 (omega arith) at-first
 
 -- the counts compute: the loop side 3 to 0, the inner side between 1 and 3, and a pair that is no side
-counts : (holders 3 0 (3 ∷ 0 ∷ 1 ∷ 1 ∷ 2 ∷ 3 ∷ []) ≡ 1) × (holders 1 3 (3 ∷ 0 ∷ 1 ∷ 1 ∷ 2 ∷ 3 ∷ []) ≡ 2) × (runs 3 1 (3 ∷ 0 ∷ 1 ∷ 1 ∷ 2 ∷ 3 ∷ []) ≡ 1) × (holders 0 2 (3 ∷ 0 ∷ 1 ∷ 1 ∷ 2 ∷ 3 ∷ []) ≡ 0)
+counts : (holders 3 0 (3 ∷ 0 ∷ 1 ∷ 1 ∷ 2 ∷ 3 ∷ []) ≡ 1) × (holders 1 3 (3 ∷ 0 ∷ 1 ∷ 1 ∷ 2 ∷ 3 ∷ []) ≡ 2)
+    × (runs 3 1 (3 ∷ 0 ∷ 1 ∷ 1 ∷ 2 ∷ 3 ∷ []) ≡ 1) × (holders 0 2 (3 ∷ 0 ∷ 1 ∷ 1 ∷ 2 ∷ 3 ∷ []) ≡ 0)
 unfolding same passes lies runs holders
 counts = (refl, refl, refl, refl)

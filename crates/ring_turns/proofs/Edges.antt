@@ -82,6 +82,7 @@ pub turn-by : (l : List Float) (n i : ℕ) → angleBy (sineAt l n i) (cosineAt 
 unfolding acuteAt proportionAt cosineAt sineAt turnAt
 turn-by l n i = between-by _ _
 
-pub proportion-held : (l : List Float) (n from k : ℕ) {fs : List Float} → fs ≡ row (sineAt l n) from k → {j : ℕ} {x y : Float} → x ≡ cosineAt l n (from + j) → y ≡ proportion (getD fs j nan) x → j < k → proportionAt l n (from + j) ∷ [] ≡ y ∷ []
+pub proportion-held : (l : List Float) (n from k : ℕ) {fs : List Float} → fs ≡ row (sineAt l n) from k → {j : ℕ} {x y : Float}
+    → x ≡ cosineAt l n (from + j) → y ≡ proportion (getD fs j nan) x → j < k → proportionAt l n (from + j) ∷ [] ≡ y ∷ []
 unfolding proportionAt
 proportion-held l n from k e {j} p q h = rw (q, p, row-at (sineAt l n) from k e j h)

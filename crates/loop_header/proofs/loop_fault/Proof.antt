@@ -1,3 +1,4 @@
+-- The first fault is told: of the shape, of the normals' size, of the ring, and then of the normals and the header's other vectors.
 use native.Mathlib.Omega.{arith}
 use borrow.Author.Tests.{not-true, not-false}
 use Rattle.loop_header.proofs.Shapes.{shape, threes-length}
@@ -8,22 +9,72 @@ use borrow.Author.Needs.{needs}
 use Rattle.loop_header.proofs.loop_fault.Statement.{statement}
 use Rattle.loop_header.proofs.loop_fault.Tie as tie
 
-pub loop-fault-spec : {M : Type 1} → statement M
+returns : tie.Need-returns
 unfolding loopFault
+returns c = rw (← c .before .shape-fault .ensures) (sym (first-hit _ _ (c .if1 .taken)))
+
+returns-2 : tie.Need-returns-2
+unfolding loopFault
+returns-2 c =
+    let sized = c .before in
+    let shaped = sized .before in
+    simp (← shaped .before .shape-fault .ensures, shaped .if1 .left, ← sized .threes .ensures, not-true (sized .threes .result) (c .if2 .taken))
+
+ring-fault-requires : tie.Need-ring-fault-requires
+ring-fault-requires c κs =
+    let shaped = c .before .before in
+    let sizes = shape _ _ _ (sym (shaped .before .shape-fault .ensures) ∙ shaped .if1 .left) in
+    omega (arith, sizes .positions)
+
+returns-3 : tie.Need-returns-3
+unfolding loopFault
+returns-3 c =
+    let ring = c .before in
+    let fit = ring .before in
+    let sized = fit .before in
+    let shaped = sized .before in
+    simp (
+      ← shaped .before .shape-fault .ensures,
+      shaped .if1 .left,
+      ← sized .threes .ensures,
+      not-false (sized .threes .result) (fit .if2 .left),
+      ← ring .ring-fault .ensures,
+    )
+    (sym (first-hit _ _ (c .if3 .taken)))
+
+vectors-fault-requires : tie.Need-vectors-fault-requires
+vectors-fault-requires c κs =
+    let fit = c .before .before in
+    let sized = fit .before in
+    omega (arith, threes-length _ _ (sym (sized .threes .ensures) ∙ not-false (sized .threes .result) (fit .if2 .left)))
+
+returns-4 : tie.Need-returns-4
+unfolding loopFault
+returns-4 c =
+    let good = c .before in
+    let ring = good .before in
+    let fit = ring .before in
+    let sized = fit .before in
+    let shaped = sized .before in
+    simp (
+      ← shaped .before .shape-fault .ensures,
+      shaped .if1 .left,
+      ← sized .threes .ensures,
+      not-false (sized .threes .result) (fit .if2 .left),
+      ← ring .ring-fault .ensures,
+      good .if3 .left,
+      c .vectors-fault .ensures,
+    )
+
+pub loop-fault-spec : {M : Type 1} → statement M
 loop-fault-spec =
     tie.close
     (tie.spec
     (λ c κs. search needs)
-    (λ c. rw (← c .before .shape-fault .ensures) (sym (first-hit _ _ (c .if1 .taken))))
+    returns
     (λ c κs. search needs)
-    (λ c. let s = c .before .before in
-    simp (← s .before .shape-fault .ensures, s .if1 .left, ← c .before .threes .ensures, not-true (c .before .threes .result) (c .if2 .taken)))
-    (λ c κs. let s = c .before .before in
-    let r = shape _ _ _ (sym (s .before .shape-fault .ensures) ∙ s .if1 .left) in
-    omega (arith, r .positions))
-    (λ c. let s = c .before .before .before .before in
-    simp (← s .before .shape-fault .ensures, s .if1 .left, ← c .before .before .before .threes .ensures, not-false (c .before .before .before .threes .result) (c .before .before .if2 .left), ← c .before .ring-fault .ensures) (sym (first-hit _ _ (c .if3 .taken))))
-    (λ c κs. let t = c .before .before .before in
-    omega (arith, threes-length _ _ (sym (t .threes .ensures) ∙ not-false (t .threes .result) (c .before .before .if2 .left))))
-    (λ c. let s = c .before .before .before .before .before in
-    simp (← s .before .shape-fault .ensures, s .if1 .left, ← c .before .before .before .before .threes .ensures, not-false (c .before .before .before .before .threes .result) (c .before .before .before .if2 .left), ← c .before .before .ring-fault .ensures, c .before .if3 .left, c .vectors-fault .ensures)))
+    returns-2
+    ring-fault-requires
+    returns-3
+    vectors-fault-requires
+    returns-4)

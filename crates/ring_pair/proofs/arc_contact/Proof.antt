@@ -1,3 +1,4 @@
+-- Each turn of the loop grades one block of edges, and `Grade` is kept: what is found so far and the edges left come to the whole contact.
 use native.Mathlib.Omega.{arith}
 use mathlib.Core.Path.{refl, sym, _∙_}
 use Prim.Native.Nat.{_-_}
@@ -29,6 +30,7 @@ arc-contact-spec =
     (λ c. omega (arith, c .before .before .before .before .block-end .ensures .1))
     (λ c. let k = c .before .before .before in
     let e = k .before .block-end .ensures in
-    grade-part (k .before .before .before .loop .inv) (k .block-contact .result) (k .block-contact .ensures) (omega (arith, e .1)) (e .3) (sym (c .before .before .is-crossed .ensures) ∙ c .before .if1 .left) (simp (c .is-touched .ensures)))
+    grade-part (k .before .before .before .loop .inv) (k .block-contact .result) (k .block-contact .ensures) (omega (arith, e .1)) (e .3)
+    (sym (c .before .before .is-crossed .ensures) ∙ c .before .if1 .left) (simp (c .is-touched .ensures)))
     (λ c κs. tt)
     (λ c. c .uncrossed .ensures ∙ grade-end (c .before .before .loop .inv) (omega arith)))

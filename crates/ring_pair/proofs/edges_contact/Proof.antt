@@ -1,3 +1,4 @@
+-- Each turn of the loop grades the relation with one edge, and `Grade` is kept: what is found so far and the edges left come to the part's contact.
 use native.Mathlib.Omega.{arith}
 use borrow.Author.Needs.{needs}
 use mathlib.Core.Path.{refl, sym, _∙_}
@@ -29,7 +30,10 @@ edges-contact-spec =
     (λ c. search needs)
     (λ c. search needs)
     (λ c. let k = c .before .before .before in
-    let l = k .before .before .before .before .loop in
-    (grade-on (l .inv .0) (k .grade .result) (simp (k .grade .ensures, k .before .relation-at .ensures)) (omega arith) (sym (c .before .before .is-crossed .ensures) ∙ c .before .if1 .left) (simp (c .is-touched .ensures)), omega (arith, l .inv .1)))
+    let l = k .before .before .before .before .loop in (
+      grade-on (l .inv .0) (k .grade .result) (simp (k .grade .ensures, k .before .relation-at .ensures)) (omega arith)
+          (sym (c .before .before .is-crossed .ensures) ∙ c .before .if1 .left) (simp (c .is-touched .ensures)),
+      omega (arith, l .inv .1),
+    ))
     (λ c κs. tt)
     (λ c. c .uncrossed .ensures ∙ grade-end (c .before .before .loop .inv .0) (omega arith)))

@@ -1,3 +1,4 @@
+-- Each turn of the loop writes one product, and `Fill` is kept: those before are written, and the rest is as it was.
 use native.Mathlib.Omega.{arith}
 use borrow.Author.Needs.{needs}
 use Rattle.ring_turns.specs.Blocks.{productAt}
@@ -25,6 +26,9 @@ write-products-spec =
     (λ c κs. search needs)
     (λ c. search needs)
     (λ c. search needs)
-    (λ c. (fill-on (c .before .before .before .before .before .before .loop .inv .0) (simp (c .before .before .put .ensures, c .before .before .before .product .ensures)) (omega arith), c .before .before .before .before .before .before .loop .inv .1))
+    (λ c. let written = c .before .before in
+    let multiplied = written .before in
+    let inv = multiplied .before .before .before .loop .inv in
+    (fill-on (inv .0) (simp (written .put .ensures, multiplied .product .ensures)) (omega arith), inv .1))
     (λ c. search needs)
     (λ c. fill-all (c .before .loop .inv .0) (omega arith) (c .before .loop .inv .1)))

@@ -20,7 +20,7 @@ both true true e = (refl, refl)
 both true false e = absurd (true≢false (sym e))
 both false q e = absurd (true≢false (sym e))
 
--- one turn
+-- one iteration
 module _ (ps : List Float) (k : ℕ) (s : Remaining) (a b c : ℕ) (rest : List ℕ) {i : ℕ} (e : i ≡ indexOf (s .ids) b) where
   pub accepts-on : fitsAt ps s i a c ≡ true → accepts ps (suc k) s (a ∷ b ∷ c ∷ rest) ≡ accepts ps k (cutAt ps s i) rest
   unfolding accepts
@@ -53,7 +53,7 @@ module _ {ps : List Float} {ids₀ classes₀ tris ids classes : List ℕ} {m t 
   pub at-most : {i : ℕ} → i ≡ indexOf (take m ids) (getD tris (3 * t + 1) 0) → i ≤ length (take m ids)
   at-most e = rw e (omega (arith, firstAt-le (isNumber (take m ids) (getD tris (3 * t + 1) 0)) (length (take m ids)) 0))
 
-  -- a turn
+  -- an iteration
   module _ {i : ℕ} (more : 3 < m) (e : i ≡ indexOf (take m ids) (getD tris (3 * t + 1) 0)) {b : Bool}
       (f : b ≡ fitsAt ps (left ids classes m) i (getD tris (3 * t) 0) (getD tris (3 * t + 2) 0)) where
     room : 3 * t + 2 < length tris

@@ -12,7 +12,7 @@ use Rattle.ring_ears.specs.Ears.{Lent, cutAt, cutIn}
 use Rattle.ring_reflex.specs.Lowest.{lowest}
 use Rattle.ring_reflex.specs.Apart.{apartOf}
 use Rattle.ring_cut.specs.Cut.{Cutting, ahead, cutting, cuttingFrom, laid}
-use Rattle.ring_cut.proofs.Turns.{cutting-on, cutting-stuck, cutting-end, whole-three}
+use Rattle.ring_cut.proofs.Steps.{cutting-on, cutting-stuck, cutting-end, whole-three}
 use Rattle.ring_cut.proofs.Lefts.{left, Held, hold, found, ids-left, cut-left, cut-held}
 use Rattle.ring_cut.proofs.Lists.{Listing, list, list-on}
 
@@ -54,7 +54,7 @@ begin {ids = ids} l h r a q = record {
 }
 
 module _ {ps : List Float} {ids₀ classes₀ apart₀ tris₀ ids classes apart tris : List ℕ} {k m t : ℕ} (g : Going ps ids₀ classes₀ apart₀ tris₀ ids classes apart tris k m t) where
-  -- a turn
+  -- an iteration
   module _ {i : ℕ} (more : 3 < m) (e : i ≡ lowest ps (take m ids) classes) where
     one-less : m - 3 ≡ suc (m - 1 - 3)
     one-less = omega arith
@@ -64,7 +64,7 @@ module _ {ps : List Float} {ids₀ classes₀ apart₀ tris₀ ids classes apart
         let h : length (take m ids) ≤ i = rw (g .held .sized, q) (omega arith) in
         rw (g .rest, one-less, cutting-stuck ps (m - 1 - 3) (left ids classes m) e h, append-nil, g .done-size) (ap (λ (l : List ℕ). record { answer = false; out = l }) (g .tris-are))
 
-    -- what the calls of a turn leave
+    -- what the calls of an iteration leave
     module _ {ids′ classes′ tris′ part : List ℕ} (ne : i ≡ m → ⊥) (q : ids′ ≡ part ++ drop m ids) (p : record { ids = part; classes = classes′ } ≡ cutIn ps (left ids classes m) i)
         (u : tris′ ≡ sets tris (3 * t) (earOf (take m ids) i)) (kept : length part ≡ length (take m ids)) (also : length classes′ ≡ length classes) where
       pub cut : {apart′ : List ℕ} {k′ : ℕ} → take k′ apart′ ≡ apartOf (without i (take m ids)) classes′ → k′ ≤ length apart → length apart′ ≡ length apart

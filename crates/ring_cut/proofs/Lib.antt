@@ -1,7 +1,7 @@
 pub mod Firsts
 pub mod Lefts
 pub mod Lists
-pub mod Turns
+pub mod Steps
 pub mod Goings
 pub mod Relations
 pub mod Wholes

@@ -13,7 +13,7 @@ use Rattle.ring_ears.specs.Ears.{ear, Remaining, cutAt}
 use Rattle.ring_cut.specs.Cut.{Cutting, lowestOf, cutting}
 use Rattle.ring_cut.specs.Accepted.{CutBy, last, cut, Lowest}
 use Rattle.ring_cut.proofs.Firsts.{first-has, none-before}
-use Rattle.ring_cut.proofs.Turns.{cutting-on, cutting-stuck, cutting-end}
+use Rattle.ring_cut.proofs.Steps.{cutting-on, cutting-stuck, cutting-end}
 
 module _ {ps : List Float} {May : Remaining → ℕ → Type 0} where
   -- whatever may be cut, the ring numbers are cut corner by corner

@@ -18,7 +18,7 @@ use Rattle.ring_insides.specs.declared.Found.the-variants as F
 use Rattle.vec3.specs.declared.Insides.{Insides}
 use Rattle.ring_cut.specs.Cut.{wholeRing, cutting}
 use Rattle.ring_insides.specs.Insides.{withMean, isBoth, meanOf, withMeans, meansFrom, insidesFrom, insidesOf}
-use Rattle.ring_cut.proofs.Turns.{cutting-on, cutting-stuck, cutting-end, whole-three}
+use Rattle.ring_cut.proofs.Steps.{cutting-on, cutting-stuck, cutting-end, whole-three}
 use Rattle.ring_cut.proofs.Lefts.{left, Held, hold, found, ids-left, cut-left, cut-held}
 use Rattle.ring_cut.proofs.Lists.{Listing, list, list-on}
 
@@ -67,7 +67,7 @@ module _ {ps : List Float} {ids₀ classes₀ apart₀ ids classes apart : List 
         let h : length (take m ids) ≤ i = rw (g .held .sized, q) (omega arith) in
         sym (g .rest ∙ rw (one-less, cutting-stuck ps (m - 1 - 3) (left ids classes m) e h) (means-none ps f))
 
-    -- with the mean of this turn
+    -- with the mean of this iteration
     module _ {f′ : Found} (ne : i ≡ m → ⊥) (u : f′ ≡ withMean f (meanOf (triangleAt ps (take m ids) i))) where
       on : meansFrom ps (record { ids = ids₀; classes = classes₀ }) ≡ withMeans ps f′ (cutting ps (m - 1 - 3) (cutAt ps (left ids classes m) i) .triangles)
       on =

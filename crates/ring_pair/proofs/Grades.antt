@@ -20,7 +20,7 @@ pub record Grade (x t : ℕ → Bool) (n i : ℕ) (touched : Bool) (z : Contact)
 pub grade : {x t : ℕ → Bool} {n : ℕ} {z : Contact} → z ≡ graded (anyOf x n 0) (anyOf t n 0) → Grade x t n 0 false z
 grade e = record { within = omega arith; rest = rw sub-zero e }
 
--- a turn that does not cross: what is remembered of it
+-- an iteration that does not cross: what is remembered of it
 once : (a b touched s r : Bool) → isCrossed (graded a b) ≡ false → graded (a || r) (touched || (b || s)) ≡ graded r ((touched || isTouched (graded a b)) || s)
 once true b touched s r h = absurd (let z : _≡_ {A = ℕ} 0 1 = cc in omega arith)
 once false true true s r h = refl

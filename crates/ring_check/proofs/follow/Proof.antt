@@ -1,4 +1,4 @@
--- Each turn of the loop cuts the ear that the next triple names and keeps `Following`, that the list is accepted if what is left of it is.
+-- Each iteration cuts the ear that the next triple names and keeps `Following`, that the list is accepted if what is left of it is.
 use native.Mathlib.Omega.{arith}
 use borrow.Author.Needs.{needs}
 use mathlib.Core.Path.{refl}

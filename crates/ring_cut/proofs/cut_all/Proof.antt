@@ -1,4 +1,4 @@
--- Each turn of the loop cuts the lowest ear and keeps `Going`, that the ring left and the triangles laid come to the cutting of the whole ring.
+-- Each iteration cuts the lowest ear and keeps `Going`, that the ring left and the triangles laid come to the cutting of the whole ring.
 use native.Mathlib.Omega.{arith}
 use borrow.Author.Needs.{needs}
 use mathlib.Core.Path.{refl, sym}

@@ -1,4 +1,4 @@
--- Each turn of the loop adds the mean of the lowest ear, cuts it and keeps `Seeking`, that what is left to find comes to the means of the whole ring.
+-- Each iteration adds the mean of the lowest ear, cuts it and keeps `Seeking`, that what is left to find comes to the means of the whole ring.
 use native.Mathlib.Omega.{arith}
 use borrow.Author.Needs.{needs}
 use mathlib.Core.Path.{refl, sym, _∙_}

@@ -1,4 +1,4 @@
--- Each turn of the loop grades one block of edges, and `Grade` is kept: what is found so far and the edges left come to the whole contact.
+-- Each iteration grades one block of edges, and `Grade` is kept: what is found so far and the edges left come to the whole contact.
 use native.Mathlib.Omega.{arith}
 use mathlib.Core.Path.{refl, sym, _∙_}
 use Prim.Native.Nat.{_-_}

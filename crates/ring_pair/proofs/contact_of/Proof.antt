@@ -1,4 +1,4 @@
--- Each turn of the loop grades one edge, and `Grade` is kept: what is found so far and the edges left come to the whole contact.
+-- Each iteration grades one edge, and `Grade` is kept: what is found so far and the edges left come to the whole contact.
 use native.Mathlib.Omega.{arith}
 use borrow.Author.Needs.{needs}
 use mathlib.Core.Path.{refl, sym, _∙_}

@@ -1,4 +1,4 @@
--- Each turn of the loop writes one product, and `Fill` is kept: those before are written, and the rest is as it was.
+-- Each iteration writes one product, and `Fill` is kept: those before are written, and the rest is as it was.
 use native.Mathlib.Omega.{arith}
 use borrow.Author.Needs.{needs}
 use Rattle.ring_turns.specs.Blocks.{productAt}

@@ -1,4 +1,4 @@
--- One turn of cutting, and its end. Assumes nothing.
+-- One step of cutting, and its end. Assumes nothing.
 use Prim.Native.Nat.{ℕ, suc, _<_, _≤_}
 use mathlib.Core.Path.{_≡_, refl}
 use mathlib.Core.Bool.{true, false}

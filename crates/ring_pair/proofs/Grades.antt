@@ -1,4 +1,4 @@
--- The invariant of a loop that ends at the first crossing and remembers a touch: of the turns from i on some may cross (x), and some may touch (t).
+-- The invariant of a loop that ends at the first crossing and remembers a touch: of the iterations from i on some may cross (x), and some may touch (t).
 -- Assumes nothing.
 use Prim.Native.Nat.{ℕ, suc, _+_, _-_, _≤_, _<_}
 use mathlib.Core.Bool.{Bool, true, false, _||_}
@@ -53,7 +53,7 @@ module _ {x t : ℕ → Bool} {n i : ℕ} {touched : Bool} {z : Contact} (g : Gr
   unfolding anyOf
   grade-end h = sym ((rw (none n i h) at (g .rest)) ∙ alone touched)
 
-  -- the turns up to j at once
+  -- the iterations up to j at once
   module _ (y : Contact) {j : ℕ} (e : y ≡ graded (anyOf x (j - i) i) (anyOf t (j - i) i)) (h : i ≤ j) (k : j ≤ n) where
     whole : z ≡ graded (anyOf x (j - i) i || anyOf x (n - j) j) (touched || (anyOf t (j - i) i || anyOf t (n - j) j))
     whole = rw (any-part x n i j h k, any-part t n i j h k) at (g .rest)

@@ -11,7 +11,6 @@ unfolding triangulateOutcome
 returns c = rw (← c .before .cut-fault .ensures) (was-refused _ _ _ (c .if1 .taken))
 
 cut-corners-requires : tie.Need-cut-corners-requires
-unfolding triangulateOutcome
 cut-corners-requires c κs =
     let fine = c .before .before .before in
     cut-ring _ _ _ (fine .before .cut-fault .ensures) (fine .if1 .left) (c .before .enum-told3 .given .1)

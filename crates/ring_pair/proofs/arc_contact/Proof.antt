@@ -13,24 +13,54 @@ Inv-loop a others theirs m touched₀ from₀ touched from = Grade (crosses a ot
 abbrev μ-loop : tie.MeasureT-loop
 μ-loop a others theirs m touched₀ from₀ touched from = m - from
 
-pub arc-contact-spec : {M : Type 1} → statement M
+loop-holds : tie.Need-loop-holds Inv-loop μ-loop
 unfolding anyCrosses anyTouches
+loop-holds c = grade refl
+
+block-contact-requires : tie.Need-block-contact-requires Inv-loop μ-loop
+block-contact-requires c κs =
+    let block = c .block-end .ensures in
+    (omega (arith, block .1), block .2, block .3, omega arith, omega arith, omega arith)
+
+returns : tie.Need-returns Inv-loop μ-loop
+returns c =
+    let asked = c .before in
+    let graded = asked .before in
+    let ended = graded .before in
+    let block = ended .block-end .ensures in
+    let contact = graded .block-contact in
+    grade-part-hit (ended .before .before .loop .inv) (contact .result) (contact .ensures) (omega (arith, block .1)) (block .3)
+    (sym (asked .is-crossed .ensures) ∙ c .if1 .taken)
+
+loop-less : tie.Need-loop-less Inv-loop μ-loop
+loop-less c = omega (arith, c .before .before .before .before .block-end .ensures .1)
+
+loop-again : tie.Need-loop-again Inv-loop μ-loop
+loop-again c =
+    let passed = c .before in
+    let asked = passed .before in
+    let graded = asked .before in
+    let ended = graded .before in
+    let block = ended .block-end .ensures in
+    let contact = graded .block-contact in
+    grade-part (ended .before .before .loop .inv) (contact .result) (contact .ensures) (omega (arith, block .1)) (block .3)
+    (sym (asked .is-crossed .ensures) ∙ passed .if1 .left) (simp (c .is-touched .ensures))
+
+returns-2 : tie.Need-returns-2 Inv-loop μ-loop
+returns-2 c = c .uncrossed .ensures ∙ grade-end (c .before .before .loop .inv) (omega arith)
+
+pub arc-contact-spec : {M : Type 1} → statement M
 arc-contact-spec =
     tie.close
     (tie.spec
     Inv-loop μ-loop
-    (λ c. grade refl)
+    loop-holds
     (λ c κs. (omega arith, omega arith))
-    (λ c κs. let e = c .block-end .ensures in (omega (arith, e .1), e .2, e .3, omega arith, omega arith, omega arith))
+    block-contact-requires
     (λ c κs. tt)
-    (λ c. let k = c .before .before in
-    let e = k .before .block-end .ensures in
-    grade-part-hit (k .before .before .before .loop .inv) (k .block-contact .result) (k .block-contact .ensures) (omega (arith, e .1)) (e .3) (sym (c .before .is-crossed .ensures) ∙ c .if1 .taken))
+    returns
     (λ c κs. tt)
-    (λ c. omega (arith, c .before .before .before .before .block-end .ensures .1))
-    (λ c. let k = c .before .before .before in
-    let e = k .before .block-end .ensures in
-    grade-part (k .before .before .before .loop .inv) (k .block-contact .result) (k .block-contact .ensures) (omega (arith, e .1)) (e .3)
-    (sym (c .before .before .is-crossed .ensures) ∙ c .before .if1 .left) (simp (c .is-touched .ensures)))
+    loop-less
+    loop-again
     (λ c κs. tt)
-    (λ c. c .uncrossed .ensures ∙ grade-end (c .before .before .loop .inv) (omega arith)))
+    returns-2)

@@ -15,23 +15,45 @@ Inv-loop positions normals n others theirs m touched₀ i₀ touched i =
 abbrev μ-loop : tie.MeasureT-loop
 μ-loop positions normals n others theirs m touched₀ i₀ touched i = n - i
 
-pub contact-of-spec : {M : Type 1} → statement M
+loop-holds : tie.Need-loop-holds Inv-loop μ-loop
 unfolding contactOf
+loop-holds c = grade refl
+
+returns : tie.Need-returns Inv-loop μ-loop
+returns c =
+    let asked = c .before in
+    let graded = asked .before in
+    let drawn = graded .before in
+    let contact = graded .arc-contact in
+    grade-hit (drawn .before .before .loop .inv) (contact .result) (simp (contact .ensures, drawn .edge .ensures)) (omega arith)
+    (sym (asked .is-crossed .ensures) ∙ c .if1 .taken)
+
+loop-again : tie.Need-loop-again Inv-loop μ-loop
+loop-again c =
+    let passed = c .before in
+    let asked = passed .before in
+    let graded = asked .before in
+    let drawn = graded .before in
+    let contact = graded .arc-contact in
+    grade-on (drawn .before .before .loop .inv) (contact .result) (simp (contact .ensures, drawn .edge .ensures)) (omega arith)
+    (sym (asked .is-crossed .ensures) ∙ passed .if1 .left) (simp (c .is-touched .ensures))
+
+returns-2 : tie.Need-returns-2 Inv-loop μ-loop
+returns-2 c = c .uncrossed .ensures ∙ grade-end (c .before .before .loop .inv) (omega arith)
+
+pub contact-of-spec : {M : Type 1} → statement M
 contact-of-spec =
     tie.close
     (tie.spec
     Inv-loop μ-loop
-    (λ c. grade refl)
+    loop-holds
     (λ c κs. search needs)
     (λ c κs. search needs)
     (λ c κs. search needs)
-    (λ c. let k = c .before .before in
-    grade-hit (k .before .before .before .loop .inv) (k .arc-contact .result) (simp (k .arc-contact .ensures, k .before .edge .ensures)) (omega arith) (sym (c .before .is-crossed .ensures) ∙ c .if1 .taken))
+    returns
     (λ c κs. search needs)
     (λ c. search needs)
     (λ c. search needs)
-    (λ c. let k = c .before .before .before in
-    grade-on (k .before .before .before .loop .inv) (k .arc-contact .result) (simp (k .arc-contact .ensures, k .before .edge .ensures)) (omega arith)
-    (sym (c .before .before .is-crossed .ensures) ∙ c .before .if1 .left) (simp (c .is-touched .ensures)))
+    loop-again
     (λ c κs. search needs)
-    (λ c. c .uncrossed .ensures ∙ grade-end (c .before .before .loop .inv) (omega arith)))
+    returns-2)

@@ -14,26 +14,47 @@ Inv-loop a others theirs m from to candidates touched₀ j₀ touched j = Grade 
 abbrev μ-loop : tie.MeasureT-loop
 μ-loop a others theirs m from to candidates touched₀ j₀ touched j = to - j
 
+candidate-requires : tie.Need-candidate-requires Inv-loop μ-loop
+candidate-requires c κs =
+    let head = c .before in
+    (head .loop .inv .1, omega arith, omega arith, head .before .before .before .before .pre .5)
+
+returns : tie.Need-returns Inv-loop μ-loop
+returns c =
+    let asked = c .before in
+    let graded = asked .before in
+    let related = graded .before in
+    let grade = graded .grade in
+    grade-hit (related .before .before .before .loop .inv .0) (grade .result) (simp (grade .ensures, related .relation-at .ensures)) (omega arith)
+    (sym (asked .is-crossed .ensures) ∙ c .if1 .taken)
+
+loop-again : tie.Need-loop-again Inv-loop μ-loop
+loop-again c =
+    let passed = c .before in
+    let asked = passed .before in
+    let graded = asked .before in
+    let related = graded .before in
+    let inv = related .before .before .before .loop .inv in
+    let grade = graded .grade in (
+      grade-on (inv .0) (grade .result) (simp (grade .ensures, related .relation-at .ensures)) (omega arith)
+          (sym (asked .is-crossed .ensures) ∙ passed .if1 .left) (simp (c .is-touched .ensures)),
+      omega (arith, inv .1),
+    )
+
 pub edges-contact-spec : {M : Type 1} → statement M
 edges-contact-spec =
     tie.close
     (tie.spec
     Inv-loop μ-loop
     (λ c. (record { within = omega arith; rest = refl }, omega arith))
-    (λ c κs. (c .before .loop .inv .1, omega arith, omega arith, c .before .before .before .before .before .pre .5))
+    candidate-requires
     (λ c κs. (omega arith, omega arith, omega arith, omega arith, c .candidate .ensures))
     (λ c κs. tt)
     (λ c κs. tt)
-    (λ c. let k = c .before .before in
-    grade-hit (k .before .before .before .before .loop .inv .0) (k .grade .result) (simp (k .grade .ensures, k .before .relation-at .ensures)) (omega arith) (sym (c .before .is-crossed .ensures) ∙ c .if1 .taken))
+    returns
     (λ c κs. tt)
     (λ c. search needs)
     (λ c. search needs)
-    (λ c. let k = c .before .before .before in
-    let l = k .before .before .before .before .loop in (
-      grade-on (l .inv .0) (k .grade .result) (simp (k .grade .ensures, k .before .relation-at .ensures)) (omega arith)
-          (sym (c .before .before .is-crossed .ensures) ∙ c .before .if1 .left) (simp (c .is-touched .ensures)),
-      omega (arith, l .inv .1),
-    ))
+    loop-again
     (λ c κs. tt)
     (λ c. c .uncrossed .ensures ∙ grade-end (c .before .before .loop .inv .0) (omega arith)))

@@ -15,7 +15,6 @@ is-convex-requires : tie.Need-is-convex-requires
 is-convex-requires c κs = let given = c .before .before .before .before .pre in (given .2, given .0 .below _ (given .2))
 
 returns : tie.Need-returns
-unfolding ear
 returns c =
     let convex = c .before in
     let asked = convex .before in
@@ -31,7 +30,6 @@ is-one-held-requires c κs =
     (apart-indexed (given .0) (given .1), omega (arith, apart-few (given .0) (given .1), given .0 .few))
 
 returns-2 : tie.Need-returns-2
-unfolding ear
 returns-2 c =
     let drawn = c .before in
     let convex = drawn .before .before in

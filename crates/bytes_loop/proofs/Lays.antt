@@ -11,7 +11,7 @@ use Rattle.laws.specs.Loop.{flat}
 use Rattle.laws.proofs.Copies.{one, copied, length-flat}
 use lib.Ieee.{Float}
 use Rattle.loop_header.specs.declared.Header.{Header}
-use Rattle.bytes_loop.specs.Layout.{floatBlock, floatsAt, floatBytesAt, floatsBytes, headerBytes}
+use Rattle.bytes_loop.specs.Layout.{headerSize, floatBlock, floatsAt, floatBytesAt, floatsBytes, headerBytes}
 use Rattle.vec3.specs.declared.Vec3.{Vec3}
 use Rattle.wire.specs.Wire.{vecBytes}
 use Rattle.wire.proofs.Bytes.{sets-sets, eight}
@@ -65,7 +65,7 @@ pub floats-width : (l : List Float) → length (floatsBytes l) ≡ 8 * length l
 unfolding floatsBytes
 floats-width l = span (floatBytesAt l) (λ j. eight _) (length l) 0
 
-pub header-width : (h : Header) → length (headerBytes h) ≡ 88
+pub header-width : (h : Header) → length (headerBytes h) ≡ headerSize
 unfolding headerBytes
 header-width h = simp (length-append, eight)
 

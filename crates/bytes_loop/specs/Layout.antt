@@ -1,7 +1,8 @@
 -- A loop in bytes. "u16 count, u8 state, u8 marks (1 reversed, 2 weak, 4 insides present), four zero bytes, cap centre and radius (4 f64), two insides
 -- (6 f64, zero where absent), then 24n bytes of positions, 24n of normals, n of classes: 88 + 49n bytes. A state byte above 2 or a length that does not agree
 -- is refusal 1; unknown mark bits and the four bytes are passed over". Definitions only.
-use Prim.Native.Nat.{ℕ, _+_, _*_, _/_, _%_}
+use Prim.Native.Nat.{ℕ, _+_, _-_, _*_, _/_, _%_, _≤_}
+use mathlib.Core.Path.{_≡_}
 use mathlib.Core.Bool.{Bool, true, false, cond}
 use mathlib.Core.List.{List, [], _∷_, _++_}
 use lib.ListN.{length, getD, drop}
@@ -20,6 +21,19 @@ use Rattle.loop_header.specs.declared.State.the-variants.{Empty, Full, Ring}
 use Rattle.loop_header.specs.declared.Header.{Header}
 use Rattle.loop_header.specs.Loops as L
 use Rattle.wire.specs.Wire.{u16Of, floatOf, vecOf, bytes2, floatBytes, vecBytes}
+
+-- ---- sizes and places, of n corners
+abbrev pub headerSize : ℕ
+headerSize = 88
+
+abbrev pub normalsFrom : ℕ → ℕ
+normalsFrom n = headerSize + 24 * n
+
+abbrev pub classesFrom : ℕ → ℕ
+classesFrom n = headerSize + 48 * n
+
+abbrev pub loopSize : ℕ → ℕ
+loopSize n = headerSize + 49 * n
 
 -- ---- the header as it is read
 abbrev pub countAt : List ℕ → ℕ
@@ -64,13 +78,13 @@ unfoldable pub floatsAt : List ℕ → ℕ → ℕ → List Float
 floatsAt s at n = flat (floatBlock s at) n 0
 
 abbrev pub positionsAt : List ℕ → List Float
-positionsAt s = floatsAt s 88 (3 * countAt s)
+positionsAt s = floatsAt s headerSize (3 * countAt s)
 
 abbrev pub normalsAt : List ℕ → List Float
-normalsAt s = floatsAt s (88 + 24 * countAt s) (3 * countAt s)
+normalsAt s = floatsAt s (normalsFrom (countAt s)) (3 * countAt s)
 
 abbrev pub classesAt : List ℕ → List ℕ
-classesAt s = drop (88 + 48 * countAt s) s
+classesAt s = drop (classesFrom (countAt s)) s
 
 abbrev pub numberBlock : List ℕ → ℕ → List ℕ
 numberBlock s i = u16Of s (2 * i) ∷ []
@@ -89,10 +103,10 @@ sizeFault size n = cond (eqb size n) 0 1
 
 -- "an `_f64` header to be read that is not 88"
 unfoldable pub headerFault : List ℕ → ℕ
-headerFault s = first (sizeFault (length s) 88) (stateFault s)
+headerFault s = first (sizeFault (length s) headerSize) (stateFault s)
 
 unfoldable pub frameFault : List ℕ → ℕ
-frameFault s = first (sizeFault (length s) (88 + 49 * countAt s)) (stateFault s)
+frameFault s = first (sizeFault (length s) (loopSize (countAt s))) (stateFault s)
 
 -- ---- what cannot be copied into work arrays: a count above 512 is 2, or 1 where it does not fit its state
 abbrev pub largeFault : State → ℕ
@@ -151,3 +165,29 @@ numberBytesAt l i = bytes2 (getD l i 0)
 
 unfoldable pub numbersBytes : List ℕ → List ℕ
 numbersBytes l = flat (numberBytesAt l) (length l) 0
+
+abbrev pub loopBytes : Header → List Float → List Float → List ℕ → List ℕ
+loopBytes h ps ns cs = headerBytes h ++ floatsBytes ps ++ floatsBytes ns ++ cs
+
+-- ---- inner
+-- the corners that bytes of a size have room for
+unfoldable pub cornersFor : ℕ → ℕ
+cornersFor size = if ltb size headerSize then 0 else (if ltb 512 ((size - headerSize) / 49) then 512 else (size - headerSize) / 49)
+
+-- a loop in bytes whose length agrees, with an array of the size of its positions
+pub record Array (s : List ℕ) (positions : ℕ) : Type 0 where
+  pub size : length s ≡ loopSize (countAt s)
+  pub for-positions : positions ≡ 3 * countAt s
+
+-- and with one for its normals too
+pub record Arrays (s : List ℕ) (positions normals : ℕ) : Type 0 where
+  pub size : length s ≡ loopSize (countAt s)
+  pub for-positions : positions ≡ 3 * countAt s
+  pub for-normals : normals ≡ 3 * countAt s
+
+-- the parts of a loop, and room for them in bytes
+pub record Parts (h : Header) (out positions normals classes : ℕ) : Type 0 where
+  pub room : loopSize (h .count) ≤ out
+  pub for-positions : positions ≡ 3 * h .count
+  pub for-normals : normals ≡ 3 * h .count
+  pub for-classes : classes ≡ h .count

@@ -18,10 +18,11 @@ use Rattle.loop_header.specs.declared.Header.{Header}
 use Rattle.loop_build.specs.Build as B
 use Rattle.loop_build.proofs.Rooms.{list-fine}
 use Rattle.loop_build.proofs.Rooms as R
+use Rattle.wire.specs.Wire.{floatsAt}
+use Rattle.wire.proofs.Lays.{floats-length}
 use Rattle.bytes_loop.specs.Outcome.{Outcome, outcome, refusalOf}
-use Rattle.bytes_loop.specs.Layout.{headerSize, floatsAt, cornersFor, Parts}
+use Rattle.bytes_loop.specs.Layout.{headerSize, cornersFor, Parts}
 use Rattle.bytes_loop.proofs.Faults.{by-outcome}
-use Rattle.bytes_loop.proofs.Lays.{floats-length}
 use Rattle.bytes_loop.proofs.Parts.{behind}
 use Rattle.bytes_build.specs.Build.{madeIf, madeOf, madeBytes, builtOutcome, buildOutcome, listAt, Roomy, Fitting, front, loopOutcome, outOutcome, headerOutcome, floatsOutcome, shortHeader, Counted}
 use Rattle.bytes_build.proofs.Rooms.{need-none, need-header, same-refusal, fits, fine, no-need, header-need}

@@ -80,7 +80,9 @@ module _ (l ps ns : List Float) (cs : List ℕ) (size : ℕ) (w : Roomy size (le
 
   pub same-refusal : (refusal l ps ns cs ≡ 0 → ⊥) → first (listFault l) (needFault size (openedCount l)) ≡ refusal l ps ns cs
   unfolding refusal
-  same-refusal h = either (listFault l) (roomFault (openedCount l) (length ps) (length ns) (length cs)) (needFault size (openedCount l)) (λ z g. same-five size (openedCount l) (length ps) (length ns) (length cs) w (list-fine l z .small) g) h
+  same-refusal h =
+      either (listFault l) (roomFault (openedCount l) (length ps) (length ns) (length cs)) (needFault size (openedCount l))
+      (λ z g. same-five size (openedCount l) (length ps) (length ns) (length cs) w (list-fine l z .small) g) h
 
   -- no refusal, by the opened count
   pub fits : refusal l ps ns cs ≡ 0 → 3 ≤ openedCount l → openedCount l ≤ length cs

@@ -14,8 +14,9 @@ use Rattle.loop_header.specs.declared.Header.{Header}
 use Rattle.loop_header.specs.Loops.{emptyHeader}
 use Rattle.loop_build.specs.Build.{listFault, openedCount, Made, made}
 use Rattle.loop_build.specs.Build as B
+use Rattle.wire.specs.Wire.{floatsAt}
 use Rattle.bytes_loop.specs.Outcome.{Outcome, outcome, refusalOf, outcomeBy}
-use Rattle.bytes_loop.specs.Layout.{headerSize, loopSize, floatsAt, headerBytes, loopBytes, cornersFor}
+use Rattle.bytes_loop.specs.Layout.{headerSize, loopSize, headerBytes, loopBytes, cornersFor}
 
 -- the loop of a list: its header and its three lists
 abbrev pub madeIf : Bool → List Float → ℕ → Made

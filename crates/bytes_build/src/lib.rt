@@ -54,7 +54,7 @@ fn build_in(
     requires { ⌜ Bu.Roomy (length (now out)) (length (now positions)) (length (now normals)) (length (now classes)) × (8 * length (now floats) ≡ length (now list)) ⌝ }
     ensures { λ r. ⌜ outcome r (now (out .exit)) ≡ Bu.builtOutcome (Bu.listAt (now (list .entry))) (now (out .entry)) ⌝ }
 {
-    bytes_loop::read_floats(list, 0, floats);
+    wire::read_floats(list, 0, floats);
     build_from(floats, out, positions, normals, classes)
 }
 

@@ -10,14 +10,15 @@ use lib.Ieee.{Float}
 use borrow.Author.Tests.{eq-eqb, ne-eqb, eqb-true, lt-ltb, le-ltb, ltb-false}
 use Rattle.laws.specs.Loop.{first}
 use Rattle.laws.proofs.Firsts.{first-zero, test-passed}
-use Rattle.laws.proofs.Copies.{length-flat}
 use Rattle.loop_header.specs.declared.Header.{Header}
 use Rattle.loop_header.specs.Loops.{checkFault}
 use Rattle.loop_ask.specs.Answers.{answer, judged}
 use Rattle.ring_check.specs.Accepted.{accepted}
 use Rattle.loop_triangles.specs.Triangles.{acceptsAnswer}
+use Rattle.wire.specs.Wire.{numbersAt}
+use Rattle.wire.proofs.Lays.{numbers-length}
 use Rattle.bytes_loop.specs.Outcome.{refusalOf}
-use Rattle.bytes_loop.specs.Layout.{headerAt, positionsAt, classesAt, numberBlock, numbersAt, frameFault, manyFault, copyFault}
+use Rattle.bytes_loop.specs.Layout.{headerAt, positionsAt, classesAt, frameFault, manyFault, copyFault}
 use Rattle.bytes_loop.proofs.Faults.{frame-size, copyable}
 use Rattle.bytes_loop.proofs.Parts.{positions-length, classes-length}
 use Rattle.bytes_ask.specs.Ask.{numberOf}
@@ -51,10 +52,6 @@ module _ (size : ℕ) where
   pub read-some : 1533 ≤ size / 2 → 1533 ≡ numbersFor size
   unfolding numbersFor
   read-some h = rw (le-ltb (size / 2) 1533 h)
-
-numbers-length : (t : List ℕ) (k : ℕ) → length (numbersAt t k) ≡ k
-unfolding numbersAt
-numbers-length t k = length-flat (numberBlock t) (λ j. refl) k 0
 
 -- a longer list than any ring has triangles is a no, unless a refusal comes first
 module _ (h : Header) (ps : List Float) (cs : List ℕ) where

@@ -15,8 +15,9 @@ use Rattle.loop_header.specs.Loops.{cutFault}
 use Rattle.loop_ask.specs.Answers.{Told, refused, answer}
 use Rattle.loop_triangles.specs.declared.Cut.{Cut}
 use Rattle.loop_triangles.specs.Triangles as T
+use Rattle.wire.specs.Wire.{numbersBytes}
 use Rattle.bytes_loop.specs.Outcome.{Outcome, outcome, refusalOf, outcomeBy}
-use Rattle.bytes_loop.specs.Layout.{headerAt, positionsAt, classesAt, numbersBytes, headerFault, frameFault}
+use Rattle.bytes_loop.specs.Layout.{headerAt, positionsAt, classesAt, headerFault, frameFault}
 use Rattle.bytes_ask.specs.Ask.{numberOf}
 
 -- how many triangles a loop has: none, 20 or n - 2

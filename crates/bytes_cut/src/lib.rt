@@ -34,7 +34,7 @@ fn leave_cut(c: Cut, triples: &[u16], out: &mut [u8]) -> u32
     match c {
         Cut::Refused(f) => refusal(f),
         Cut::Triangles(n) => {
-            bytes_loop::put_numbers(out, triples);
+            wire::put_numbers(out, triples);
             n as u32
         }
     }

@@ -12,8 +12,10 @@ use borrow.Author.Tests.{ltb-true, ltb-false}
 use Rattle.numbers.specs.Choice.{if_then_else_}
 use Rattle.laws.proofs.Rests.{rest}
 use Rattle.loop_header.specs.declared.Header.{Header}
-use Rattle.bytes_loop.specs.Layout.{headerSize, normalsFrom, classesFrom, loopSize, countAt, floatsAt, positionsAt, normalsAt, classesAt, headerBytes, floatsBytes, loopBytes, cornersFor, Parts}
-use Rattle.bytes_loop.proofs.Lays.{two, floats-width, floats-length, header-width}
+use Rattle.wire.specs.Wire.{floatsAt, floatsBytes}
+use Rattle.wire.proofs.Bytes.{eight}
+use Rattle.wire.proofs.Lays.{two, floats-width, floats-length}
+use Rattle.bytes_loop.specs.Layout.{headerSize, normalsFrom, classesFrom, loopSize, countAt, positionsAt, normalsAt, classesAt, headerBytes, loopBytes, cornersFor, Parts}
 
 module _ (s : List ℕ) where
   -- ---- as they are read
@@ -37,6 +39,10 @@ module _ (s : List ℕ) where
   classes-length h = rw length-drop (omega arith)
 
 -- ---- four stores in a row
+header-width : (h : Header) → length (headerBytes h) ≡ headerSize
+unfolding headerBytes
+header-width h = simp (length-append, eight)
+
 module _ (h : Header) (ps ns : List Float) (cs out : List ℕ) (f : Parts h (length out) (length ps) (length ns) (length cs)) where
   pub laid : {x y z t : List ℕ} → x ≡ sets out 0 (headerBytes h) → y ≡ sets x headerSize (floatsBytes ps)
       → z ≡ sets y (normalsFrom (h .count)) (floatsBytes ns) → t ≡ sets z (classesFrom (h .count)) cs

@@ -7,9 +7,9 @@ use mathlib.Core.Bool.{Bool, true, false, cond}
 use mathlib.Core.List.{List, [], _∷_, _++_}
 use lib.ListN.{length, getD, drop}
 use lib.Dec.{eqb, ltb}
-use lib.Ieee.{Float, nan}
+use lib.Ieee.{Float}
 use Rattle.numbers.specs.Choice.{if_then_else_}
-use Rattle.laws.specs.Loop.{first, flat}
+use Rattle.laws.specs.Loop.{first}
 use Rattle.vec3.specs.declared.Vec3.{Vec3}
 use Rattle.vec3.specs.Vec.{origin}
 use Rattle.chord_length.specs.Chords.{squared}
@@ -20,7 +20,7 @@ use Rattle.loop_header.specs.declared.State.{State}
 use Rattle.loop_header.specs.declared.State.the-variants.{Empty, Full, Ring}
 use Rattle.loop_header.specs.declared.Header.{Header}
 use Rattle.loop_header.specs.Loops as L
-use Rattle.wire.specs.Wire.{u16Of, floatOf, vecOf, bytes2, floatBytes, vecBytes}
+use Rattle.wire.specs.Wire.{u16Of, floatOf, vecOf, floatsAt, bytes2, floatBytes, vecBytes, floatsBytes}
 
 -- ---- sizes and places, of n corners
 abbrev pub headerSize : ℕ
@@ -70,13 +70,6 @@ headerAt s = record {
 }
 
 -- ---- the rest of a loop
-abbrev pub floatBlock : List ℕ → ℕ → ℕ → List Float
-floatBlock s at i = floatOf s (at + 8 * i) ∷ []
-
--- n floats from an offset on
-unfoldable pub floatsAt : List ℕ → ℕ → ℕ → List Float
-floatsAt s at n = flat (floatBlock s at) n 0
-
 abbrev pub positionsAt : List ℕ → List Float
 positionsAt s = floatsAt s headerSize (3 * countAt s)
 
@@ -85,13 +78,6 @@ normalsAt s = floatsAt s (normalsFrom (countAt s)) (3 * countAt s)
 
 abbrev pub classesAt : List ℕ → List ℕ
 classesAt s = drop (classesFrom (countAt s)) s
-
-abbrev pub numberBlock : List ℕ → ℕ → List ℕ
-numberBlock s i = u16Of s (2 * i) ∷ []
-
--- n numbers of two bytes each
-unfoldable pub numbersAt : List ℕ → ℕ → List ℕ
-numbersAt s n = flat (numberBlock s) n 0
 
 -- ---- refusal 1 of bytes, ahead of what the loop itself is refused for
 unfoldable pub stateFault : List ℕ → ℕ
@@ -153,18 +139,6 @@ insidesBytes i = vecBytes (firstInside i) ++ vecBytes (secondInside i)
 
 unfoldable pub headerBytes : Header → List ℕ
 headerBytes h = frontBytes (h .count) (stateCode (h .state)) (marksOf h) ++ capBytes (h .cap) ++ insidesBytes (h .insides)
-
-abbrev pub floatBytesAt : List Float → ℕ → List ℕ
-floatBytesAt l i = floatBytes (getD l i nan)
-
-unfoldable pub floatsBytes : List Float → List ℕ
-floatsBytes l = flat (floatBytesAt l) (length l) 0
-
-abbrev pub numberBytesAt : List ℕ → ℕ → List ℕ
-numberBytesAt l i = bytes2 (getD l i 0)
-
-unfoldable pub numbersBytes : List ℕ → List ℕ
-numbersBytes l = flat (numberBytesAt l) (length l) 0
 
 abbrev pub loopBytes : Header → List Float → List Float → List ℕ → List ℕ
 loopBytes h ps ns cs = headerBytes h ++ floatsBytes ps ++ floatsBytes ns ++ cs

@@ -148,22 +148,12 @@ pub fn copy_fault(s: &[u8]) -> u8
     many_fault(s)
 }
 
-// The floats from an offset on, as many as there is room for.
-pub fn read_floats(s: &[u8], at: usize, out: &mut [f64])
-    requires { ⌜ at + 8 * length (now out) ≤ length (now s) ⌝ }
-    ensures { λ _. ⌜ now (out .exit) ≡ F.floatsAt (now (s .entry)) at (length (now (out .entry))) ⌝ }
-{
-    for i in 0..out.len() {
-        out[i] = wire::float_at(s, at + 8 * i);
-    }
-}
-
 // A loop's positions, into an array of their size.
 pub fn read_positions(s: &[u8], positions: &mut [f64])
     requires { ⌜ F.Array (now s) (length (now positions)) ⌝ }
     ensures { λ _. ⌜ now (positions .exit) ≡ F.positionsAt (now (s .entry)) ⌝ }
 {
-    read_floats(s, HEADER, positions);
+    wire::read_floats(s, HEADER, positions);
 }
 
 // A loop's positions and normals, into arrays of their size.
@@ -173,8 +163,8 @@ pub fn read_vectors(s: &[u8], positions: &mut [f64], normals: &mut [f64])
     ensures { λ _. ⌜ now (normals .exit) ≡ F.normalsAt (now (s .entry)) ⌝ }
 {
     let from = HEADER + 24 * count_at(s);
-    read_floats(s, HEADER, positions);
-    read_floats(s, from, normals);
+    wire::read_floats(s, HEADER, positions);
+    wire::read_floats(s, from, normals);
 }
 
 // Where a loop's classes begin: they are read where they stand.
@@ -195,16 +185,6 @@ pub fn corners_for(size: usize) -> usize
     }
     let n = (size - HEADER) / 49;
     if n > 512 { 512 } else { n }
-}
-
-// The numbers of two bytes each, as many as there is room for.
-pub fn read_numbers(s: &[u8], out: &mut [u16])
-    requires { ⌜ 2 * length (now out) ≤ length (now s) ⌝ }
-    ensures { λ _. ⌜ now (out .exit) ≡ F.numbersAt (now (s .entry)) (length (now (out .entry))) ⌝ }
-{
-    for i in 0..out.len() {
-        out[i] = wire::u16_at(s, 2 * i) as u16;
-    }
 }
 
 fn state_code(state: State) -> u8
@@ -307,24 +287,6 @@ pub fn put_header(out: &mut [u8], h: Header)
     put_insides(out, insides);
 }
 
-pub fn put_floats(out: &mut [u8], at: usize, from: &[f64])
-    requires { ⌜ at + 8 * length (now from) ≤ length (now out) ⌝ }
-    ensures { λ _. ⌜ now (out .exit) ≡ sets (now (out .entry)) at (F.floatsBytes (now (from .entry))) ⌝ }
-{
-    for i in 0..from.len() {
-        wire::put_float(out, at + 8 * i, from[i]);
-    }
-}
-
-pub fn put_bytes(out: &mut [u8], at: usize, from: &[u8])
-    requires { ⌜ at + length (now from) ≤ length (now out) ⌝ }
-    ensures { λ _. ⌜ now (out .exit) ≡ sets (now (out .entry)) at (now (from .entry)) ⌝ }
-{
-    for i in 0..from.len() {
-        out[at + i] = from[i];
-    }
-}
-
 // A loop's bytes: its header, its positions, its normals and its classes.
 pub fn put_loop(out: &mut [u8], h: Header, positions: &[f64], normals: &[f64], classes: &[u8])
     requires { ⌜ F.Parts h (length (now out)) (length (now positions)) (length (now normals)) (length (now classes)) ⌝ }
@@ -332,22 +294,7 @@ pub fn put_loop(out: &mut [u8], h: Header, positions: &[f64], normals: &[f64], c
 {
     let n = h.count;
     put_header(out, h);
-    put_floats(out, HEADER, positions);
-    put_floats(out, HEADER + 24 * n, normals);
-    put_bytes(out, HEADER + 48 * n, classes);
-}
-
-fn wide(n: u16) -> u64
-    ensures { λ r. ⌜ r ≡ n ⌝ }
-{
-    n as u64
-}
-
-pub fn put_numbers(out: &mut [u8], from: &[u16])
-    requires { ⌜ 2 * length (now from) ≤ length (now out) ⌝ }
-    ensures { λ _. ⌜ now (out .exit) ≡ sets (now (out .entry)) 0 (F.numbersBytes (now (from .entry))) ⌝ }
-{
-    for i in 0..from.len() {
-        wire::put_u16(out, 2 * i, wide(from[i]));
-    }
+    wire::put_floats(out, HEADER, positions);
+    wire::put_floats(out, HEADER + 24 * n, normals);
+    wire::put_bytes(out, HEADER + 48 * n, classes);
 }

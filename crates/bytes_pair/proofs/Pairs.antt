@@ -55,7 +55,12 @@ module _ (h : Header) (ps ns : List Float) (cs : List ℕ) (o : Header) (qs ms :
 module _ (q : Comparison) (a b : List ℕ) {f r : ℕ} (e : f ≡ copyFault a) where
   pub first-early : (f ≡ 0 → ⊥) → r ≡ refusalOf f → r ≡ numberOf (pairTold q a b)
   first-early h t =
-      rw (t, e, told-early a (againstTold q (headerAt a) (positionsAt a) (normalsAt a) (classesAt a) b) (λ k. next-refused (headerAt a) (positionsAt a) (normalsAt a) (classesAt a) (headerAt b) (positionsAt b) (normalsAt b) (classesAt b) q (frameFault b)) (λ z. h (e ∙ z)))
+      rw (
+        t,
+        e,
+        told-early a (againstTold q (headerAt a) (positionsAt a) (normalsAt a) (classesAt a) b)
+            (λ k. next-refused (headerAt a) (positionsAt a) (normalsAt a) (classesAt a) (headerAt b) (positionsAt b) (normalsAt b) (classesAt b) q (frameFault b)) (λ z. h (e ∙ z)),
+      )
 
   pub first-late : f ≡ 0 → r ≡ numberOf (againstTold q (headerAt a) (positionsAt a) (normalsAt a) (classesAt a) b) → r ≡ numberOf (pairTold q a b)
   first-late z t = rw (copies a e z .framed) t

@@ -1,3 +1,4 @@
+-- Four stores of two bytes each, one after the other, are the eight bytes.
 use native.Mathlib.Numerals.{towards-suc}
 use Rattle.wire.specs.Wire.{bytes8}
 use borrow.Author.Needs.{needs}
@@ -11,5 +12,8 @@ put-u64-spec =
     (tie.spec
     (λ c κs. search needs) (λ c. search needs) (λ c κs. search needs) (λ c. search needs) (λ c κs. search needs)
     (λ c. search needs) (λ c κs. search needs) (λ c. search needs)
-    (λ c. let p = c .before .before in
-    simp (p .put-u164 .ensures, p .before .before .before .before .put-u163 .ensures, p .before .before .before .before .before .before .before .before .put-u162 .ensures, p .before .before .before .before .before .before .before .before .before .before .before .before .put-u16 .ensures, towards-suc)))
+    (λ c. let fourth = c .before .before in
+    let third = fourth .before .before .before .before in
+    let second = third .before .before .before .before in
+    let first = second .before .before .before .before in
+    simp (fourth .put-u164 .ensures, third .put-u163 .ensures, second .put-u162 .ensures, first .put-u16 .ensures, towards-suc)))

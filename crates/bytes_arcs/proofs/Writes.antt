@@ -12,7 +12,7 @@ use Rattle.wire.specs.Wire.{vecBytes}
 use Rattle.wire.proofs.Bytes.{three}
 use Rattle.bytes_loop.specs.Layout.{sizeFault}
 use Rattle.bytes_loop.proofs.Faults.{size-right}
-use Rattle.bytes_loop.proofs.Lays.{width}
+use Rattle.wire.proofs.Lays.{width}
 use Rattle.arcs.specs.Answers.{Told, answer, judged, arcFault}
 use Rattle.arcs.proofs.Judged.{judged-hit, judged-none}
 use Rattle.bytes_loop.specs.Outcome.{Outcome, outcome, refusalOf}

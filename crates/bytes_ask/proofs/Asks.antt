@@ -1,15 +1,14 @@
 -- A loop in bytes that is refused ahead of being copied, and one that is copied. Assumes nothing.
-use Prim.Native.Nat.{ℕ, zero, suc, _+_, _-_, _*_, _%_, _≤_, _<_}
+use Prim.Native.Nat.{ℕ, zero, suc, _*_, _%_, _≤_, _<_}
 use mathlib.Core.Path.{_≡_, refl, sym, _∙_}
 use mathlib.Core.Bool.{Bool, true, false, _&&_, cond}
 use mathlib.Core.List.{List}
 use native.Mathlib.Omega.{arith}
-use lib.ListN.{length, take, drop, length-drop}
+use lib.ListN.{length}
 use lib.Dec.{ltb}
 use lib.Ieee.{Float}
 use borrow.Author.Tests.{eq-eqb, ne-eqb, lt-ltb, le-leb, ltb-true}
 use Rattle.laws.specs.Loop.{first}
-use Rattle.laws.proofs.Rests.{rest}
 use Rattle.vec3.specs.declared.Vec3.{Vec3}
 use Rattle.loop_header.specs.declared.State.{State}
 use Rattle.loop_header.specs.declared.State.the-variants.{Empty, Full, Ring}
@@ -19,16 +18,12 @@ use Rattle.loop_ask.specs.Answers.{Told, refused, judged}
 use Rattle.loop_ask.specs.Questions.{queryFault, placeAnswer, vertexAnswer, onEdgeAnswer, convexAnswer, simpleAnswer}
 use Rattle.wire.specs.Wire.{vecOf}
 use Rattle.bytes_loop.specs.Outcome.{refusalOf}
-use Rattle.bytes_loop.specs.Layout.{countAt, stateByte, stateOf, headerAt, floatsAt, positionsAt, normalsAt, classesAt, frameFault, largeFault, manyFault, copyFault}
-use Rattle.bytes_loop.proofs.Lays.{floats-length}
+use Rattle.bytes_loop.specs.Layout.{countAt, stateByte, stateOf, headerAt, positionsAt, normalsAt, classesAt, frameFault, largeFault, manyFault, copyFault, Arrays}
 use Rattle.bytes_loop.proofs.Faults.{wrong-size, right-size, frame-size, Copyable, copyable}
+use Rattle.bytes_loop.proofs.Parts.{positions-length, normals-length, classes-length}
 use Rattle.bytes_ask.specs.declared.Question.{Question}
 use Rattle.bytes_ask.specs.declared.Question.the-variants.{Place, Vertex, OnEdge, Convex, Simple}
-use Rattle.bytes_ask.specs.Ask.{numberOf, toldAt, needsPosition, toldBy, askTold, Arrays}
-
--- ---- sizes of a loop's parts
-pub classes-length : (s : List ℕ) → length s ≡ 88 + 49 * countAt s → length (classesAt s) ≡ countAt s
-classes-length s h = rw length-drop (omega arith)
+use Rattle.bytes_ask.specs.Ask.{numberOf, toldAt, needsPosition, toldBy, askTold}
 
 -- ---- a count above 512
 shape-large : (h : Header) (ps : List Float) (cs : List ℕ) → length ps ≡ 3 * h .count → length cs ≡ h .count → shapeFault h ps cs ≡ cond (countFits (h .state) (h .count)) 0 1
@@ -117,7 +112,7 @@ module _ (s : List ℕ) where
   positive Ring e = omega arith
 
   pub bytes-large : frameFault s ≡ 0 → 512 < countAt s → loopFault (headerAt s) (positionsAt s) (normalsAt s) (classesAt s) ≡ largeFault (stateOf (stateByte s))
-  bytes-large e g = loop-large (headerAt s) (positionsAt s) (classesAt s) g (floats-length s 88 (3 * countAt s)) (classes-length s (frame-size s e)) (normalsAt s) (floats-length s (88 + 24 * countAt s) (3 * countAt s))
+  bytes-large e g = loop-large (headerAt s) (positionsAt s) (classesAt s) g (positions-length s) (classes-length s (frame-size s e)) (normalsAt s) (normals-length s)
 
   many : (b : Bool) → ltb 512 (countAt s) ≡ b → (cond b (largeFault (stateOf (stateByte s))) 0 ≡ 0 → ⊥) → 512 < countAt s
   many true e h = ltb-true 512 (countAt s) e
@@ -160,13 +155,7 @@ module _ (s : List ℕ) {f : ℕ} (e : f ≡ copyFault s) (z : f ≡ 0) where
   small q = omega (arith, copies .most)
 
   pub arrays : {n a b : ℕ} → n ≡ countAt s → a ≡ 3 * n → b ≡ 3 * n → Arrays s a b
-  arrays q a b = record { size = copies .size; most = copies .most; for-positions = rw (← q) a; for-normals = rw (← q) b }
+  arrays q a b = record { size = copies .size; for-positions = rw (← q) a; for-normals = rw (← q) b }
 
   pub late : (q : Question) (p : List ℕ) {r : ℕ} → r ≡ numberOf (toldBy q (headerAt s) (positionsAt s) (normalsAt s) (classesAt s) p) → r ≡ numberOf (askTold q s p)
   late q p t = rw (copies .framed) t
-
--- the parts as they were copied
-pub copied : (q : Question) (s p : List ℕ) {n a b r : ℕ} {h : Header} {ps ns : List Float} → n ≡ countAt s → h ≡ headerAt s → ps ≡ floatsAt s 88 a → a ≡ 3 * countAt s
-    → ns ≡ floatsAt s (88 + 24 * n) b → b ≡ 3 * countAt s
-    → r ≡ numberOf (toldBy q h ps ns (take (length s - (88 + 48 * n)) (drop (88 + 48 * n) s)) p) → r ≡ numberOf (toldBy q (headerAt s) (positionsAt s) (normalsAt s) (classesAt s) p)
-copied q s p e f g i j k t = rw (f, g, i, j, k, e, rest (88 + 48 * countAt s) s) at t

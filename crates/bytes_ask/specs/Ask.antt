@@ -1,7 +1,6 @@
--- Questions over bytes. "A position that is not 24 bytes, an `_f64` header to be read that is not 88: refusal 1. A query's own 1 comes after all refusals of
+-- Questions over bytes. "A position that is not 24 bytes, an `_f64` header .. : refusal 1. A query's own 1 comes after all refusals of
 -- the loop before it, the second loop's after all of the first's". Definitions only.
-use Prim.Native.Nat.{ℕ, _+_, _*_, _≤_}
-use mathlib.Core.Path.{_≡_}
+use Prim.Native.Nat.{ℕ}
 use mathlib.Core.Bool.{Bool, true, false}
 use mathlib.Core.List.{List}
 use lib.ListN.{length}
@@ -14,7 +13,7 @@ use Rattle.loop_ask.specs.Answers.{Told, refused, answer, judged}
 use Rattle.loop_ask.specs.Questions.{placeAnswer, vertexAnswer, onEdgeAnswer, convexAnswer, simpleAnswer}
 use Rattle.wire.specs.Wire.{vecOf}
 use Rattle.bytes_loop.specs.Outcome.{refusalOf}
-use Rattle.bytes_loop.specs.Layout.{countAt, headerAt, positionsAt, normalsAt, classesAt, sizeFault, headerFault, frameFault}
+use Rattle.bytes_loop.specs.Layout.{headerAt, positionsAt, normalsAt, classesAt, sizeFault, headerFault, frameFault}
 use Rattle.bytes_ask.specs.declared.Question.{Question}
 use Rattle.bytes_ask.specs.declared.Question.the-variants.{Place, Vertex, OnEdge, Convex, Simple}
 
@@ -65,10 +64,3 @@ placeTold s ps ns cs p = judged (headerFault s) (placeAnswer (headerAt s) ps ns 
 -- ---- inner
 abbrev pub noQuery : Header → List Float → List Float → List ℕ → ℕ
 noQuery h ps ns cs = refusalOf (first (loopFault h ps ns cs) 1)
-
--- a loop in bytes with arrays for its floats
-pub record Arrays (s : List ℕ) (positions normals : ℕ) : Type 0 where
-  pub size : length s ≡ 88 + 49 * countAt s
-  pub most : countAt s ≤ 512
-  pub for-positions : positions ≡ 3 * countAt s
-  pub for-normals : normals ≡ 3 * countAt s

@@ -1,6 +1,5 @@
 // Questions put to loops in bytes. The floats are copied into work arrays, the classes are read where they stand.
 ghost use mathlib.Core.Path.{_≡_};
-ghost use Prim.Native.Nat.{_+_, _*_};
 ghost use lib.ListN.{length};
 ghost use Rattle.loop_ask.specs.Answers as An;
 ghost use Rattle.bytes_ask.specs.Ask as As;
@@ -96,13 +95,11 @@ fn answer(
 
 // `ask` with its work arrays.
 fn ask_in(q: Question, s: &[u8], position: &[u8], positions: &mut [f64], normals: &mut [f64]) -> u32
-    requires { ⌜ As.Arrays (now s) (length (now positions)) (length (now normals)) ⌝ }
+    requires { ⌜ F.Arrays (now s) (length (now positions)) (length (now normals)) ⌝ }
     ensures { λ r. ⌜ r ≡ As.numberOf (As.toldBy q (F.headerAt (now (s .entry))) (F.positionsAt (now (s .entry))) (F.normalsAt (now (s .entry))) (F.classesAt (now (s .entry))) (now (position .entry))) ⌝ }
 {
-    let n = bytes_loop::count_at(s);
-    let from = 88 + 48 * n;
-    bytes_loop::read_floats(s, 88, positions);
-    bytes_loop::read_floats(s, 88 + 24 * n, normals);
+    let from = bytes_loop::classes_from(s);
+    bytes_loop::read_vectors(s, positions, normals);
     answer(
         q,
         bytes_loop::header_at(s),

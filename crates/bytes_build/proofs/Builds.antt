@@ -1,11 +1,11 @@
 -- A loop that was built in arrays, and its bytes. Assumes nothing.
-use Prim.Native.Nat.{ℕ, zero, suc, _+_, _*_, _/_, _%_, _≤_, _<_}
+use Prim.Native.Nat.{ℕ, zero, suc, _*_, _/_, _%_, _≤_, _<_}
 use mathlib.Core.Path.{_≡_, refl, sym, ap, _∙_, subst}
 use mathlib.Core.Logic.{_⊎_, inl, inr}
 use mathlib.Core.Bool.{Bool, true, false, _&&_, _||_, cond}
 use mathlib.Core.List.{List, [], _∷_, _++_, append-nil}
 use native.Mathlib.Omega.{arith}
-use lib.ListN.{length, take, drop, drop-of-length-le, length-append}
+use lib.ListN.{length, take, drop, drop-of-length-le}
 use lib.Seq.{sets, take-at, length-take-le}
 use lib.Dec.{leb, ltb}
 use lib.Ieee.{Float}
@@ -18,12 +18,14 @@ use Rattle.loop_header.specs.declared.Header.{Header}
 use Rattle.loop_build.specs.Build as B
 use Rattle.loop_build.proofs.Rooms.{list-fine}
 use Rattle.loop_build.proofs.Rooms as R
+use Rattle.wire.specs.Wire.{floatsAt}
+use Rattle.wire.proofs.Lays.{floats-length}
 use Rattle.bytes_loop.specs.Outcome.{Outcome, outcome, refusalOf}
-use Rattle.bytes_loop.specs.Layout.{floatsAt, floatsBytes, headerBytes}
+use Rattle.bytes_loop.specs.Layout.{headerSize, cornersFor, Parts}
 use Rattle.bytes_loop.proofs.Faults.{by-outcome}
-use Rattle.bytes_loop.proofs.Lays.{two, floats-width, header-width, floats-length}
-use Rattle.bytes_build.specs.Build.{madeIf, madeOf, loopBytes, builtOutcome, buildOutcome, listAt, roomOf, Roomy, Fitting, front, loopOutcome, outOutcome, headerOutcome, floatsOutcome, shortHeader, Counted}
-use Rattle.bytes_build.proofs.Rooms.{behind, need-none, need-header, same-refusal, fits, fine, no-need, header-need}
+use Rattle.bytes_loop.proofs.Parts.{behind}
+use Rattle.bytes_build.specs.Build.{madeIf, madeOf, madeBytes, builtOutcome, buildOutcome, listAt, Roomy, Fitting, front, loopOutcome, outOutcome, headerOutcome, floatsOutcome, shortHeader, Counted}
+use Rattle.bytes_build.proofs.Rooms.{need-none, need-header, same-refusal, fits, fine, no-need, header-need}
 
 -- ---- the front of what was written is the loop
 abbrev emptied : {A : Type 0} → List A → List A
@@ -106,18 +108,18 @@ module _ (l ps ns : List Float) (cs out : List ℕ) (w : Roomy (length out) (len
     unfolding madeOf
     front-of = rw (header-of, ap (λ (x : B.Outcome). x .positions) whole, ap (λ (x : B.Outcome). x .normals) whole, ap (λ (x : B.Outcome). x .classes) whole) (front-is l (B.openedCount l) ps ns cs (ltb (B.openedCount l) 3))
 
-    short : length out < 88 → loopOutcome h ps′ ns′ cs′ out ≡ builtOutcome l out
+    short : length out < headerSize → loopOutcome h ps′ ns′ cs′ out ≡ builtOutcome l out
     unfolding loopOutcome builtOutcome
     short g = rw (lt-ltb _ _ g, header-need l ps ns cs (length out) w none g)
 
-    long : 88 ≤ length out → loopOutcome h ps′ ns′ cs′ out ≡ builtOutcome l out
+    long : headerSize ≤ length out → loopOutcome h ps′ ns′ cs′ out ≡ builtOutcome l out
     unfolding loopOutcome builtOutcome
-    long g = rw (le-ltb _ _ g, no-need l ps ns cs (length out) w none g) (ap (λ (m : B.Made). outcome (m .header .count) (sets out 0 (loopBytes m))) front-of)
+    long g = rw (le-ltb _ _ g, no-need l ps ns cs (length out) w none g) (ap (λ (m : B.Made). outcome (m .header .count) (sets out 0 (madeBytes m))) front-of)
 
     pub was-written : {x : Outcome ℕ} → x ≡ loopOutcome h ps′ ns′ cs′ out → x ≡ builtOutcome l out
-    was-written q = q ∙ at (ltb (length out) 88) refl
+    was-written q = q ∙ at (ltb (length out) headerSize) refl
       where
-        at : (b : Bool) → ltb (length out) 88 ≡ b → loopOutcome h ps′ ns′ cs′ out ≡ builtOutcome l out
+        at : (b : Bool) → ltb (length out) headerSize ≡ b → loopOutcome h ps′ ns′ cs′ out ≡ builtOutcome l out
         at true t = short (ltb-true _ _ t)
         at false t = long (ltb-false _ _ t)
 
@@ -135,32 +137,21 @@ module _ (l ps ns : List Float) (cs out : List ℕ) (w : Roomy (length out) (len
         let b = behind (length out) in
         record {
           most = omega (arith, counted, b .most, w .for-classes);
-          within = omega (arith, counted, b .within, w .for-classes);
+          within = λ g. omega (arith, counted, b .within g, w .for-classes);
           for-positions = omega (arith, counted, w .for-positions, w .for-classes);
           for-normals = omega (arith, counted, w .for-normals, w .for-classes);
           for-classes = omega (arith, counted);
         }
 
--- ---- four stores in a row
-module _ (h : Header) (ps ns : List Float) (cs out : List ℕ) (f : Fitting h (length out) (length ps) (length ns) (length cs)) where
-  floats-size : (l : List Float) → 3 * h .count ≤ length l → length (floatsBytes (take (3 * h .count) l)) ≡ 24 * h .count
-  floats-size l g = rw (floats-width (take (3 * h .count) l), length-take-le (3 * h .count) l g) (omega arith)
-
-  pub stored : {x y z t : List ℕ} → 88 ≤ length out → x ≡ sets out 0 (headerBytes h) → y ≡ sets x 88 (floatsBytes (take (3 * h .count) ps))
-      → z ≡ sets y (88 + 24 * h .count) (floatsBytes (take (3 * h .count) ns)) → t ≡ sets z (88 + 48 * h .count) (take (h .count) cs)
-      → outcome (h .count) t ≡ loopOutcome h ps ns cs out
-  unfolding loopOutcome
-  stored g a b c d =
-      let H = headerBytes h in
-      let P = floatsBytes (take (3 * h .count) ps) in
-      let N = floatsBytes (take (3 * h .count) ns) in
-      let k = header-width h in
-      let m = floats-size ps (f .for-positions) in
-      let n = floats-size ns (f .for-normals) in
-      let y₂ = two out H P 0 88 a b (omega arith) in
-      let z₂ = two out (H ++ P) N 0 (88 + 24 * h .count) y₂ c (rw (length-append H P) (omega arith)) in
-      let t₂ = two out (H ++ P ++ N) (take (h .count) cs) 0 (88 + 48 * h .count) z₂ d (rw (length-append (H ++ P) N, length-append H P) (omega arith)) in
-      rw (le-ltb _ _ g, t₂)
+-- ---- the front of the arrays is what is written
+module _ (h : Header) (ps ns : List Float) (cs : List ℕ) {out : ℕ} (f : Fitting h out (length ps) (length ns) (length cs)) where
+  pub parts : headerSize ≤ out → Parts h out (length (take (3 * h .count) ps)) (length (take (3 * h .count) ns)) (length (take (h .count) cs))
+  parts g = record {
+    room = f .within g;
+    for-positions = length-take-le _ ps (f .for-positions);
+    for-normals = length-take-le _ ns (f .for-normals);
+    for-classes = length-take-le _ cs (f .for-classes);
+  }
 
 -- ---- lists in bytes
 pub unread : (s : List ℕ) (out : List ℕ) {r : ℕ} → (length s % 24 ≡ 0 → ⊥) → r ≡ refusalOf 1 → outcome r out ≡ buildOutcome s out
@@ -190,7 +181,7 @@ read-list s out n e h q =
     rw (k, ← e) q
 
 -- arrays of the bytes' room
-pub roomy : {n : ℕ} (size : ℕ) {p q r : ℕ} → n ≡ roomOf size → p ≡ 3 * n → q ≡ 3 * n → r ≡ n → Roomy size p q r
+pub roomy : {n : ℕ} (size : ℕ) {p q r : ℕ} → n ≡ cornersFor size → p ≡ 3 * n → q ≡ 3 * n → r ≡ n → Roomy size p q r
 roomy size e a b d = record { for-positions = rw (← e) a; for-normals = rw (← e) b; for-classes = d ∙ e }
 
 pub given-size : (s : List ℕ) (p : ℕ) → p ≡ 3 * (length s / 24) → length s % 24 ≡ 0 → 8 * p ≡ length s
@@ -219,7 +210,7 @@ module _ (l ps ns : List Float) (cs header : List ℕ) where
   unfolding B.refusal
   short-five = one-five (B.listFault l) _ (five-or-none (B.openedCount l) (length ps) (length ns) (length cs))
 
-  pub unheaded : {r : ℕ} → length header < 88 → r ≡ shortHeader l → record { number = r; header = header; positions = ps; normals = ns; classes = cs } ≡ floatsOutcome l header ps ns cs
+  pub unheaded : {r : ℕ} → length header < headerSize → r ≡ shortHeader l → record { number = r; header = header; positions = ps; normals = ns; classes = cs } ≡ floatsOutcome l header ps ns cs
   unfolding floatsOutcome
   unheaded g q = rw (need-header (length header) 0 g, short-five, q) (at (B.listFault l))
     where
@@ -227,7 +218,7 @@ module _ (l ps ns : List Float) (cs header : List ℕ) where
       at zero = refl
       at (suc f) = refl
 
-  room-above : 88 ≤ length header → floatsOutcome l header ps ns cs ≡ outOutcome (B.buildOutcome l ps ns cs) header
+  room-above : headerSize ≤ length header → floatsOutcome l header ps ns cs ≡ outOutcome (B.buildOutcome l ps ns cs) header
   unfolding floatsOutcome B.buildOutcome
   room-above g = rw (need-none (length header) 0 g (λ (z : 3 ≤ 0). absurd (omega arith)), first-none (B.refusal l ps ns cs))
 
@@ -242,6 +233,6 @@ module _ (l ps ns : List Float) (cs header : List ℕ) where
     unfolding B.buildOutcome
     counted-told = subst (λ (x : B.Told). Counted x) (sym (ap (λ (o : B.Outcome). o .answer) e)) (counted-by (B.refusal l ps ns cs) refl)
 
-    pub headed : {r : ℕ} {header′ : List ℕ} → 88 ≤ length header → outcome r header′ ≡ headerOutcome u header
+    pub headed : {r : ℕ} {header′ : List ℕ} → headerSize ≤ length header → outcome r header′ ≡ headerOutcome u header
         → record { number = r; header = header′; positions = ps′; normals = ns′; classes = cs′ } ≡ floatsOutcome l header ps ns cs
     headed g q = rw (room-above g, ap (λ (x : Outcome ℕ). x .number) q, ap (λ (x : Outcome ℕ). x .out) q) (ap (λ (o : B.Outcome). outOutcome o header) e)

@@ -1,5 +1,5 @@
 -- Room for a loop in bytes, counted in corners. Assumes nothing.
-use Prim.Native.Nat.{ℕ, zero, suc, _+_, _-_, _*_, _/_, _≤_, _<_}
+use Prim.Native.Nat.{ℕ, zero, suc, _*_, _≤_, _<_}
 use mathlib.Core.Path.{_≡_, refl, sym, _∙_}
 use mathlib.Core.Bool.{Bool, true, false, _&&_, cond}
 use mathlib.Core.List.{List}
@@ -8,43 +8,30 @@ use lib.ListN.{length}
 use lib.Dec.{leb, ltb}
 use lib.Ieee.{Float}
 use borrow.Author.Tests.{lt-ltb, le-ltb, ltb-true, ltb-false, le-leb, leb-true}
-use Rattle.numbers.specs.Choice.{if_then_else_}
 use Rattle.laws.specs.Loop.{first}
 use Rattle.laws.proofs.Firsts.{first-zero}
 use Rattle.loop_build.specs.Build.{listFault, roomFault, openedCount, refusal}
 use Rattle.loop_build.proofs.Rooms.{list-fine, room}
-use Rattle.bytes_build.specs.Build.{corners, needFault, roomOf, Roomy}
-
-pub record Behind (size r : ℕ) : Type 0 where
-  pub within : 49 * r ≤ size - 88
-  pub most : r ≤ 512
-  pub enough : (n : ℕ) → n ≤ 512 → 88 + 49 * n ≤ size → n ≤ r
-
-pub behind : (size : ℕ) → Behind size (roomOf size)
-unfolding roomOf
-behind size = at (ltb size 88) refl (ltb 512 ((size - 88) / 49)) refl
-  where
-    at : (b : Bool) → ltb size 88 ≡ b → (d : Bool) → ltb 512 ((size - 88) / 49) ≡ d → Behind size (if b then 0 else (if d then 512 else (size - 88) / 49))
-    at true p d q = let h = ltb-true size 88 p in record { within = omega arith; most = omega arith; enough = λ n a e. omega arith }
-    at false p true q = let h = ltb-true 512 ((size - 88) / 49) q in record { within = omega arith; most = omega arith; enough = λ n a e. omega arith }
-    at false p false q = let h = ltb-false 512 ((size - 88) / 49) q in record { within = omega arith; most = omega arith; enough = λ n a e. omega arith }
+use Rattle.bytes_loop.specs.Layout.{headerSize, loopSize}
+use Rattle.bytes_loop.proofs.Parts.{behind}
+use Rattle.bytes_build.specs.Build.{corners, needFault, Roomy}
 
 module _ (size n : ℕ) where
-  pub need-none : 88 ≤ size → (3 ≤ n → 88 + 49 * n ≤ size) → needFault size n ≡ 0
+  pub need-none : headerSize ≤ size → (3 ≤ n → loopSize n ≤ size) → needFault size n ≡ 0
   unfolding needFault corners
   need-none h g = at (ltb n 3) refl
     where
-      at : (b : Bool) → ltb n 3 ≡ b → _≡_ {A = ℕ} (cond (ltb size (88 + 49 * cond b 0 n)) 5 0) 0
-      at true e = rw (le-ltb size (88 + 49 * 0) (omega arith))
-      at false e = rw (le-ltb size (88 + 49 * n) (g (ltb-false n 3 e)))
+      at : (b : Bool) → ltb n 3 ≡ b → _≡_ {A = ℕ} (cond (ltb size (loopSize (cond b 0 n))) 5 0) 0
+      at true e = rw (le-ltb size (loopSize 0) (omega arith))
+      at false e = rw (le-ltb size (loopSize n) (g (ltb-false n 3 e)))
 
-  pub need-header : size < 88 → needFault size n ≡ 5
+  pub need-header : size < headerSize → needFault size n ≡ 5
   unfolding needFault
-  need-header h = let g : size < 88 + 49 * corners n = omega arith in rw (lt-ltb size (88 + 49 * corners n) g)
+  need-header h = let g : size < loopSize (corners n) = omega arith in rw (lt-ltb size (loopSize (corners n)) g)
 
-  pub need-corners : 3 ≤ n → size < 88 + 49 * n → needFault size n ≡ 5
+  pub need-corners : 3 ≤ n → size < loopSize n → needFault size n ≡ 5
   unfolding needFault corners
-  need-corners h g = rw (le-ltb n 3 h, lt-ltb size (88 + 49 * n) g)
+  need-corners h g = rw (le-ltb n 3 h, lt-ltb size (loopSize n) g)
 
 -- the room that the arrays have says 5 as the bytes' own does
 module _ (size n p q r : ℕ) (w : Roomy size p q r) where
@@ -67,12 +54,12 @@ module _ (size n p q r : ℕ) (w : Roomy size p q r) where
   unfolding roomFault
   too-many h g = let a : p < 3 * n = omega (arith, w .for-positions, w .for-classes) in rw (le-leb 3 n h, lt-ltb p (3 * n) a)
 
-  too-short : n ≤ 512 → r < n → size < 88 + 49 * n
-  too-short m g = at (ltb size (88 + 49 * n)) refl
+  too-short : n ≤ 512 → r < n → size < loopSize n
+  too-short m g = at (ltb size (loopSize n)) refl
     where
-      at : (b : Bool) → ltb size (88 + 49 * n) ≡ b → size < 88 + 49 * n
-      at true e = ltb-true size (88 + 49 * n) e
-      at false e = let k = behind size .enough n m (ltb-false size (88 + 49 * n) e) in absurd (omega (arith, k, w .for-classes))
+      at : (b : Bool) → ltb size (loopSize n) ≡ b → size < loopSize n
+      at true e = ltb-true size (loopSize n) e
+      at false e = let k = behind size .enough n m (ltb-false size (loopSize n) e) in absurd (omega (arith, k, w .for-classes))
 
   pub same-five : n ≤ 512 → (roomFault n p q r ≡ 0 → ⊥) → needFault size n ≡ roomFault n p q r
   same-five m h = at (leb 3 n) refl (ltb r n) refl
@@ -93,7 +80,9 @@ module _ (l ps ns : List Float) (cs : List ℕ) (size : ℕ) (w : Roomy size (le
 
   pub same-refusal : (refusal l ps ns cs ≡ 0 → ⊥) → first (listFault l) (needFault size (openedCount l)) ≡ refusal l ps ns cs
   unfolding refusal
-  same-refusal h = either (listFault l) (roomFault (openedCount l) (length ps) (length ns) (length cs)) (needFault size (openedCount l)) (λ z g. same-five size (openedCount l) (length ps) (length ns) (length cs) w (list-fine l z .small) g) h
+  same-refusal h =
+      either (listFault l) (roomFault (openedCount l) (length ps) (length ns) (length cs)) (needFault size (openedCount l))
+      (λ z g. same-five size (openedCount l) (length ps) (length ns) (length cs) w (list-fine l z .small) g) h
 
   -- no refusal, by the opened count
   pub fits : refusal l ps ns cs ≡ 0 → 3 ≤ openedCount l → openedCount l ≤ length cs
@@ -104,8 +93,8 @@ module _ (l ps ns : List Float) (cs : List ℕ) (size : ℕ) (w : Roomy size (le
   unfolding refusal
   fine e = first-zero (listFault l) (roomFault (openedCount l) (length ps) (length ns) (length cs)) e .0
 
-  pub no-need : refusal l ps ns cs ≡ 0 → 88 ≤ size → first (listFault l) (needFault size (openedCount l)) ≡ 0
-  no-need e h = rw (fine e) (need-none size (openedCount l) h (λ g. omega (arith, fits e g, w .for-classes, behind size .within)))
+  pub no-need : refusal l ps ns cs ≡ 0 → headerSize ≤ size → first (listFault l) (needFault size (openedCount l)) ≡ 0
+  no-need e h = rw (fine e) (need-none size (openedCount l) h (λ g. omega (arith, fits e g, w .for-classes, behind size .within h)))
 
-  pub header-need : refusal l ps ns cs ≡ 0 → size < 88 → first (listFault l) (needFault size (openedCount l)) ≡ 5
+  pub header-need : refusal l ps ns cs ≡ 0 → size < headerSize → first (listFault l) (needFault size (openedCount l)) ≡ 5
   header-need e h = rw (fine e) (need-header size (openedCount l) h)

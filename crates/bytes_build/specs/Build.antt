@@ -1,9 +1,9 @@
--- Building over bytes, and over floats with the header in bytes. "`desk_build(list, out)`: count of the loop written to `out` (0 for empty and full, whose 88 bytes are written)"; refusal 5: "`out` of
--- `desk_build` shorter than 88 + 49n (n the opened count, 0 below three; so below 88 for an empty loop too)". Definitions only.
-use Prim.Native.Nat.{ℕ, _+_, _-_, _*_, _/_, _%_, _≤_}
+-- Building over bytes, and over floats with the header in bytes. "`desk_build(list, out)`: count of the loop written to `out` (0 for empty and full, whose ..
+-- bytes are written)"; refusal 5: "`out` of `desk_build` shorter than .. (n the opened count, 0 below three ..)", the size of a loop of n. Definitions only.
+use Prim.Native.Nat.{ℕ, _*_, _/_, _%_, _≤_}
 use mathlib.Core.Path.{_≡_}
 use mathlib.Core.Bool.{Bool, true, false, cond}
-use mathlib.Core.List.{List, [], _++_}
+use mathlib.Core.List.{List, []}
 use lib.ListN.{length, take}
 use lib.Seq.{sets}
 use lib.Dec.{eqb, ltb}
@@ -14,8 +14,9 @@ use Rattle.loop_header.specs.declared.Header.{Header}
 use Rattle.loop_header.specs.Loops.{emptyHeader}
 use Rattle.loop_build.specs.Build.{listFault, openedCount, Made, made}
 use Rattle.loop_build.specs.Build as B
+use Rattle.wire.specs.Wire.{floatsAt}
 use Rattle.bytes_loop.specs.Outcome.{Outcome, outcome, refusalOf, outcomeBy}
-use Rattle.bytes_loop.specs.Layout.{floatsAt, headerBytes, floatsBytes}
+use Rattle.bytes_loop.specs.Layout.{headerSize, loopSize, headerBytes, loopBytes, cornersFor}
 
 -- the loop of a list: its header and its three lists
 abbrev pub madeIf : Bool → List Float → ℕ → Made
@@ -26,21 +27,21 @@ unfoldable pub madeOf : List Float → Made
 madeOf l = madeIf (ltb (openedCount l) 3) l (openedCount l)
 
 -- a loop in bytes
-abbrev pub loopBytes : Made → List ℕ
-loopBytes m = headerBytes (m .header) ++ floatsBytes (m .positions) ++ floatsBytes (m .normals) ++ m .classes
+abbrev pub madeBytes : Made → List ℕ
+madeBytes m = loopBytes (m .header) (m .positions) (m .normals) (m .classes)
 
 -- the corners that room is judged by
 unfoldable pub corners : ℕ → ℕ
 corners n = cond (ltb n 3) 0 n
 
 unfoldable pub needFault : ℕ → ℕ → ℕ
-needFault size n = cond (ltb size (88 + 49 * corners n)) 5 0
+needFault size n = cond (ltb size (loopSize (corners n))) 5 0
 
 -- of a list of floats
 unfoldable pub builtOutcome : List Float → List ℕ → Outcome ℕ
 builtOutcome l out =
     outcomeBy (first (listFault l) (needFault (length out) (openedCount l))) out
-    (outcome (madeOf l .header .count) (sets out 0 (loopBytes (madeOf l))))
+    (outcome (madeOf l .header .count) (sets out 0 (madeBytes (madeOf l))))
 
 -- of a list in bytes, 24 a position
 abbrev pub listAt : List ℕ → List Float
@@ -70,7 +71,7 @@ outOutcome o header = record {
   classes = o .classes;
 }
 
--- "the `_f64` header shorter than 88 or its slices too short"
+-- "the `_f64` header shorter than .. or its slices too short"
 unfoldable pub floatsOutcome : List Float → List ℕ → List Float → List Float → List ℕ → FloatsOutcome
 floatsOutcome l header ps ns cs = outOutcome (B.outcomeBy (first (B.refusal l ps ns cs) (needFault (length header) 0)) l ps ns cs) header
 
@@ -84,19 +85,16 @@ abbrev pub Counted : B.Told → Type 0
 Counted (B.refused f) = Unit
 Counted (B.loop h) = h .count ≤ 512
 
--- the corners that there is room for
-unfoldable pub roomOf : ℕ → ℕ
-roomOf size = if ltb size 88 then 0 else (if ltb 512 ((size - 88) / 49) then 512 else (size - 88) / 49)
-
+-- arrays of the room that bytes have
 pub record Roomy (out positions normals classes : ℕ) : Type 0 where
-  pub for-positions : positions ≡ 3 * roomOf out
-  pub for-normals : normals ≡ 3 * roomOf out
-  pub for-classes : classes ≡ roomOf out
+  pub for-positions : positions ≡ 3 * cornersFor out
+  pub for-normals : normals ≡ 3 * cornersFor out
+  pub for-classes : classes ≡ cornersFor out
 
 -- a loop that fits where its header does
 pub record Fitting (h : Header) (out positions normals classes : ℕ) : Type 0 where
   pub most : h .count ≤ 512
-  pub within : 49 * h .count ≤ out - 88
+  pub within : headerSize ≤ out → loopSize (h .count) ≤ out
   pub for-positions : 3 * h .count ≤ positions
   pub for-normals : 3 * h .count ≤ normals
   pub for-classes : h .count ≤ classes
@@ -105,4 +103,4 @@ abbrev pub front : Header → List Float → List Float → List ℕ → Made
 front h ps ns cs = record { header = h; positions = take (3 * h .count) ps; normals = take (3 * h .count) ns; classes = take (h .count) cs }
 
 unfoldable pub loopOutcome : Header → List Float → List Float → List ℕ → List ℕ → Outcome ℕ
-loopOutcome h ps ns cs out = if ltb (length out) 88 then outcome (refusalOf 5) out else outcome (h .count) (sets out 0 (loopBytes (front h ps ns cs)))
+loopOutcome h ps ns cs out = if ltb (length out) headerSize then outcome (refusalOf 5) out else outcome (h .count) (sets out 0 (madeBytes (front h ps ns cs)))

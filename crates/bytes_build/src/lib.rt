@@ -1,40 +1,27 @@
 // The desk's functions over a loop in bytes, and over floats with a header in bytes. A number is answered: a refusal is 65,536 plus its own.
 ghost use mathlib.Core.Path.{_≡_};
-ghost use Prim.Native.Nat.{_+_, _*_, _-_, _≤_, _<_};
+ghost use Prim.Native.Nat.{_*_, _≤_};
 ghost use lib.ListN.{length};
 ghost use Rattle.loop_build.specs.Build as B;
 ghost use Rattle.bytes_loop.specs.Outcome.{outcome};
+ghost use Rattle.bytes_loop.specs.Layout.{headerSize};
 ghost use Rattle.bytes_build.specs.Build as Bu;
+use bytes_loop::HEADER;
 use bytes_loop::refusal;
 use loop_build::Built;
 use loop_header::Header;
-
-// How many corners there is room for behind a header: 512 are enough.
-fn room_of(size: usize) -> usize
-    ensures { λ r. ⌜ r ≡ Bu.roomOf size ⌝ }
-    ensures { λ r. ⌜ r ≤ 512 ⌝ }
-{
-    if size < 88 {
-        return 0;
-    }
-    let n = (size - 88) / 49;
-    if n > 512 { 512 } else { n }
-}
 
 // A loop written into bytes that have room for it, or refusal 5 where they cannot hold its header.
 fn leave_loop(out: &mut [u8], h: Header, positions: &[f64], normals: &[f64], classes: &[u8]) -> u32
     requires { ⌜ Bu.Fitting h (length (now out)) (length (now positions)) (length (now normals)) (length (now classes)) ⌝ }
     ensures { λ r. ⌜ outcome r (now (out .exit)) ≡ Bu.loopOutcome h (now (positions .entry)) (now (normals .entry)) (now (classes .entry)) (now (out .entry)) ⌝ }
 {
-    if out.len() < 88 {
+    if out.len() < HEADER {
         return refusal(5);
     }
     let n = h.count;
     let size = 3 * n;
-    bytes_loop::put_header(out, h);
-    bytes_loop::put_floats(out, 88, &positions[..size]);
-    bytes_loop::put_floats(out, 88 + 24 * n, &normals[..size]);
-    bytes_loop::put_bytes(out, 88 + 48 * n, &classes[..n]);
+    bytes_loop::put_loop(out, h, &positions[..size], &normals[..size], &classes[..n]);
     n as u32
 }
 
@@ -67,7 +54,7 @@ fn build_in(
     requires { ⌜ Bu.Roomy (length (now out)) (length (now positions)) (length (now normals)) (length (now classes)) × (8 * length (now floats) ≡ length (now list)) ⌝ }
     ensures { λ r. ⌜ outcome r (now (out .exit)) ≡ Bu.builtOutcome (Bu.listAt (now (list .entry))) (now (out .entry)) ⌝ }
 {
-    bytes_loop::read_floats(list, 0, floats);
+    wire::read_floats(list, 0, floats);
     build_from(floats, out, positions, normals, classes)
 }
 
@@ -83,7 +70,7 @@ pub fn build(list: &[u8], out: &mut [u8]) -> u32
         return refusal(2);
     }
     let given = 3 * m;
-    let n = room_of(out.len());
+    let n = bytes_loop::corners_for(out.len());
     let size = 3 * n;
     let mut floats = [0.0f64; 1536];
     let mut positions = [0.0f64; 1536];
@@ -101,7 +88,7 @@ pub fn build(list: &[u8], out: &mut [u8]) -> u32
 
 // A header in bytes that have room for it.
 fn leave_header(b: Built, header: &mut [u8]) -> u32
-    requires { ⌜ Bu.Counted (B.told b) × (88 ≤ length (now header)) ⌝ }
+    requires { ⌜ Bu.Counted (B.told b) × (headerSize ≤ length (now header)) ⌝ }
     ensures { λ r. ⌜ outcome r (now (header .exit)) ≡ Bu.headerOutcome (B.told b) (now (header .entry)) ⌝ }
 {
     match b {
@@ -123,7 +110,7 @@ pub fn build_floats(
 ) -> u32
     ensures { λ r. ⌜ record { number = r; header = now (header .exit); positions = now (positions .exit); normals = now (normals .exit); classes = now (classes .exit) } ≡ Bu.floatsOutcome (now (list .entry)) (now (header .entry)) (now (positions .entry)) (now (normals .entry)) (now (classes .entry)) ⌝ }
 {
-    if header.len() < 88 {
+    if header.len() < HEADER {
         return refusal(judge::first(loop_build::list_fault(list), 5));
     }
     leave_header(loop_build::build(list, positions, normals, classes), header)

@@ -1,28 +1,28 @@
 -- Lists of triples in bytes, of any length. Assumes nothing.
-use Prim.Native.Nat.{ℕ, zero, suc, _+_, _-_, _*_, _/_, _%_, _≤_, _<_}
-use mathlib.Core.Path.{_≡_, refl, sym, ap, _∙_}
+use Prim.Native.Nat.{ℕ, zero, suc, _-_, _*_, _/_, _%_, _≤_, _<_}
+use mathlib.Core.Path.{_≡_, refl, sym, _∙_}
 use mathlib.Core.Bool.{Bool, true, false, cond}
 use mathlib.Core.List.{List}
 use native.Mathlib.Omega.{arith}
-use lib.ListN.{length, take, drop}
+use lib.ListN.{length}
 use lib.Dec.{ltb}
 use lib.Ieee.{Float}
 use borrow.Author.Tests.{eq-eqb, ne-eqb, eqb-true, lt-ltb, le-ltb, ltb-false}
 use Rattle.laws.specs.Loop.{first}
 use Rattle.laws.proofs.Firsts.{first-zero, test-passed}
-use Rattle.laws.proofs.Copies.{length-flat}
-use Rattle.laws.proofs.Rests.{rest}
 use Rattle.loop_header.specs.declared.Header.{Header}
 use Rattle.loop_header.specs.Loops.{checkFault}
-use Rattle.loop_ask.specs.Answers.{Told, answer, judged}
+use Rattle.loop_ask.specs.Answers.{answer, judged}
 use Rattle.ring_check.specs.Accepted.{accepted}
 use Rattle.loop_triangles.specs.Triangles.{acceptsAnswer}
+use Rattle.wire.specs.Wire.{numbersAt}
+use Rattle.wire.proofs.Lays.{numbers-length}
 use Rattle.bytes_loop.specs.Outcome.{refusalOf}
-use Rattle.bytes_loop.specs.Layout.{countAt, headerAt, floatsAt, positionsAt, classesAt, numberBlock, numbersAt, frameFault, manyFault, copyFault}
-use Rattle.bytes_loop.proofs.Lays.{floats-length}
+use Rattle.bytes_loop.specs.Layout.{headerAt, positionsAt, classesAt, frameFault, manyFault, copyFault}
 use Rattle.bytes_loop.proofs.Faults.{frame-size, copyable}
+use Rattle.bytes_loop.proofs.Parts.{positions-length, classes-length}
 use Rattle.bytes_ask.specs.Ask.{numberOf}
-use Rattle.bytes_ask.proofs.Asks.{classes-length, check-large, is-large, large-is}
+use Rattle.bytes_ask.proofs.Asks.{check-large, is-large, large-is}
 use Rattle.bytes_ask.proofs.Calls.{gone-number}
 use Rattle.bytes_check.specs.Checking.{sixesFault, acceptsTold, listFault, numbersFor}
 
@@ -53,10 +53,6 @@ module _ (size : ℕ) where
   unfolding numbersFor
   read-some h = rw (le-ltb (size / 2) 1533 h)
 
-numbers-length : (t : List ℕ) (k : ℕ) → length (numbersAt t k) ≡ k
-unfolding numbersAt
-numbers-length t k = length-flat (numberBlock t) (λ j. refl) k 0
-
 -- a longer list than any ring has triangles is a no, unless a refusal comes first
 module _ (h : Header) (ps : List Float) (cs : List ℕ) where
   too-many : (l : List ℕ) {m : ℕ} → length l ≡ m → m % 3 ≡ 0 → 3 * (length cs - 2) < m → acceptsAnswer h ps cs l ≡ judged (checkFault h ps cs 0) (answer 0)
@@ -75,10 +71,6 @@ module _ (h : Header) (ps : List Float) (cs : List ℕ) where
           ∙ sym (too-many (numbersAt t (length t / 2)) (numbers-length t (length t / 2)) (threes (length t) x) (omega arith))
 
 -- ---- a loop and a list in bytes
-pub list-copied : (s t : List ℕ) (k : ℕ) {n a r : ℕ} {h : Header} {ps : List Float} {l : List ℕ} {u : Told} → n ≡ countAt s → h ≡ headerAt s → ps ≡ floatsAt s 88 a → a ≡ 3 * countAt s → l ≡ numbersAt t k
-    → u ≡ acceptsAnswer h ps (take (length s - (88 + 48 * n)) (drop (88 + 48 * n) s)) l → r ≡ numberOf u → r ≡ numberOf (acceptsAnswer (headerAt s) (positionsAt s) (classesAt s) (numbersAt t k))
-list-copied s t k e f g i j p q = q ∙ ap numberOf (rw (f, g, i, j, e, rest (88 + 48 * countAt s) s) at p)
-
 pub list-early : (s t : List ℕ) {f r : ℕ} → f ≡ listFault s (length t) → (f ≡ 0 → ⊥) → r ≡ refusalOf f → r ≡ numberOf (acceptsTold s t)
 unfolding acceptsAnswer copyFault
 list-early s t {f} {r} e n q = by-sixes (sixesFault (length t)) refl e
@@ -87,7 +79,7 @@ list-early s t {f} {r} e n q = by-sixes (sixesFault (length t)) refl e
     by-frame x (suc k) a b = rw (q, b)
     by-frame x zero a b =
         let g = is-large s (λ z. n (b ∙ z)) in
-        let m = check-large (headerAt s) (positionsAt s) (classesAt s) g (floats-length s 88 (3 * countAt s)) (classes-length s (frame-size s a)) in
+        let m = check-large (headerAt s) (positionsAt s) (classesAt s) g (positions-length s) (classes-length s (frame-size s a)) in
         let w : f ≡ checkFault (headerAt s) (positionsAt s) (classesAt s) (length (numbersAt t (length t / 2))) = b ∙ large-is s g ∙ sym (m (length (numbersAt t (length t / 2))) (rw numbers-length (threes (length t) x))) in
         gone-number _ w n q
 

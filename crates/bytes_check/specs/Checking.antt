@@ -7,7 +7,8 @@ use lib.Dec.{eqb, ltb}
 use Rattle.laws.specs.Loop.{first}
 use Rattle.loop_ask.specs.Answers.{Told, judged}
 use Rattle.loop_triangles.specs.Triangles.{acceptsAnswer}
-use Rattle.bytes_loop.specs.Layout.{headerAt, positionsAt, classesAt, numbersAt, frameFault, copyFault}
+use Rattle.wire.specs.Wire.{numbersAt}
+use Rattle.bytes_loop.specs.Layout.{headerAt, positionsAt, classesAt, frameFault, copyFault}
 
 unfoldable pub sixesFault : ℕ → ℕ
 sixesFault size = cond (eqb (size % 6) 0) 0 1

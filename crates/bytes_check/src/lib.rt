@@ -2,10 +2,10 @@
 ghost use mathlib.Core.Path.{_≡_};
 ghost use Prim.Native.Nat.{_*_, _≤_};
 ghost use lib.ListN.{length};
+ghost use Rattle.wire.specs.Wire.{numbersAt};
 ghost use Rattle.bytes_loop.specs.Layout as F;
 ghost use Rattle.bytes_ask.specs.Ask.{numberOf};
 ghost use Rattle.loop_triangles.specs.Triangles.{acceptsAnswer};
-ghost use Rattle.bytes_cut.specs.Cut.{Array};
 ghost use Rattle.bytes_check.specs.Checking as Ch;
 use bytes_loop::refusal;
 
@@ -30,13 +30,12 @@ fn numbers_for(size: usize) -> usize
 
 // `accepts` with its work arrays.
 fn accepts_in(s: &[u8], list: &[u8], positions: &mut [f64], numbers: &mut [u16]) -> u32
-    requires { ⌜ Array (now s) (length (now positions)) × (2 * length (now numbers) ≤ length (now list)) ⌝ }
-    ensures { λ r. ⌜ r ≡ numberOf (acceptsAnswer (F.headerAt (now (s .entry))) (F.positionsAt (now (s .entry))) (F.classesAt (now (s .entry))) (F.numbersAt (now (list .entry)) (length (now (numbers .entry))))) ⌝ }
+    requires { ⌜ F.Array (now s) (length (now positions)) × (2 * length (now numbers) ≤ length (now list)) ⌝ }
+    ensures { λ r. ⌜ r ≡ numberOf (acceptsAnswer (F.headerAt (now (s .entry))) (F.positionsAt (now (s .entry))) (F.classesAt (now (s .entry))) (numbersAt (now (list .entry)) (length (now (numbers .entry))))) ⌝ }
 {
-    let n = bytes_loop::count_at(s);
-    let from = 88 + 48 * n;
-    bytes_loop::read_floats(s, 88, positions);
-    bytes_loop::read_numbers(list, numbers);
+    let from = bytes_loop::classes_from(s);
+    bytes_loop::read_positions(s, positions);
+    wire::read_numbers(list, numbers);
     bytes_ask::answered(loop_triangles::accepts(
         bytes_loop::header_at(s),
         positions,

@@ -1,5 +1,5 @@
 -- Triangles in bytes. Assumes nothing.
-use Prim.Native.Nat.{ℕ, zero, suc, _+_, _-_, _*_, _≤_, _<_}
+use Prim.Native.Nat.{ℕ, zero, suc, _-_, _*_, _≤_, _<_}
 use mathlib.Core.Path.{_≡_, refl, sym, ap, _∙_, subst}
 use mathlib.Core.Bool.{Bool, true, false}
 use mathlib.Core.List.{List, _∷_, _++_}
@@ -11,7 +11,6 @@ use lib.Ieee.{Float}
 use borrow.Author.Tests.{lt-ltb, le-ltb}
 use Rattle.laws.specs.Loop.{first}
 use Rattle.laws.proofs.Loops.{first-hit}
-use Rattle.laws.proofs.Rests.{rest}
 use Rattle.laws.proofs.Copies.{first-of}
 use Rattle.ring_cut.specs.Cut as C
 use Rattle.loop_header.specs.declared.State.{State}
@@ -23,12 +22,12 @@ use Rattle.loop_ask.specs.Answers.{Told, answer}
 use Rattle.icosahedron.specs.Table.{triples}
 use Rattle.loop_triangles.specs.Triangles as T
 use Rattle.bytes_loop.specs.Outcome.{Outcome, outcome, refusalOf, outcomeBy}
-use Rattle.bytes_loop.specs.Layout.{countAt, stateByte, stateOf, headerAt, floatsAt, positionsAt, classesAt, headerFault, frameFault, largeFault, manyFault, copyFault}
-use Rattle.bytes_loop.proofs.Lays.{floats-length}
+use Rattle.bytes_loop.specs.Layout.{countAt, stateByte, stateOf, headerAt, positionsAt, classesAt, headerFault, frameFault, largeFault, manyFault, copyFault, Array}
 use Rattle.bytes_loop.proofs.Faults.{frame-size, by-outcome}
+use Rattle.bytes_loop.proofs.Parts.{positions-length, classes-length}
 use Rattle.bytes_ask.specs.Ask.{numberOf}
-use Rattle.bytes_ask.proofs.Asks.{classes-length, cut-large, is-large, large-is, copies}
-use Rattle.bytes_cut.specs.Cut.{triplesOf, toldOutcome, outOutcome, blank, cutOutcome, roomFault, partsOutcome, trianglesOutcome, numbersOutcome, floatsOutcome, Small, Array}
+use Rattle.bytes_ask.proofs.Asks.{cut-large, is-large, large-is, copies}
+use Rattle.bytes_cut.specs.Cut.{triplesOf, toldOutcome, outOutcome, blank, cutOutcome, roomFault, partsOutcome, trianglesOutcome, numbersOutcome, floatsOutcome, Small}
 
 -- ---- a count of triangles is small
 module _ (ps : List Float) (cs t : List ℕ) (h : length cs ≤ 512) where
@@ -91,12 +90,8 @@ module _ (h : Header) (ps : List Float) (cs out : List ℕ) {f : ℕ} (e : f ≡
     roomy g b q = rw (← e, z, ← t, le-ltb _ _ g, ← b) q
 
 -- ---- a loop in bytes
-pub copied : (s out : List ℕ) {n a : ℕ} {h : Header} {ps : List Float} {x : Outcome ℕ} → n ≡ countAt s → h ≡ headerAt s → ps ≡ floatsAt s 88 a → a ≡ 3 * countAt s
-    → x ≡ partsOutcome h ps (take (length s - (88 + 48 * n)) (drop (88 + 48 * n) s)) out → x ≡ partsOutcome (headerAt s) (positionsAt s) (classesAt s) out
-copied s out e f g i t = rw (f, g, i, e, rest (88 + 48 * countAt s) s) at t
-
 bytes-large : (s : List ℕ) → frameFault s ≡ 0 → 512 < countAt s → cutFault (headerAt s) (positionsAt s) (classesAt s) ≡ largeFault (stateOf (stateByte s))
-bytes-large s e g = cut-large (headerAt s) (positionsAt s) (classesAt s) g (floats-length s 88 (3 * countAt s)) (classes-length s (frame-size s e))
+bytes-large s e g = cut-large (headerAt s) (positionsAt s) (classesAt s) g (positions-length s) (classes-length s (frame-size s e))
 
 pub early : (s out : List ℕ) {f r : ℕ} → f ≡ copyFault s → (f ≡ 0 → ⊥) → r ≡ refusalOf f → outcome r out ≡ trianglesOutcome s out
 unfolding trianglesOutcome copyFault
@@ -110,7 +105,7 @@ early s out {f} {r} e n q = at (frameFault s) refl (e ∙ refl)
 
 module _ (s : List ℕ) {f : ℕ} (e : f ≡ copyFault s) (z : f ≡ 0) where
   pub array : {n a : ℕ} → n ≡ countAt s → a ≡ 3 * n → Array s a
-  array q a = let d = copies s e z in record { size = d .size; most = d .most; for-positions = rw (← q) a }
+  array q a = let d = copies s e z in record { size = d .size; for-positions = rw (← q) a }
 
   pub late : (out : List ℕ) {x : Outcome ℕ} → x ≡ partsOutcome (headerAt s) (positionsAt s) (classesAt s) out → x ≡ trianglesOutcome s out
   unfolding trianglesOutcome

@@ -1,7 +1,6 @@
 -- Triangles over bytes: "`desk_triangles(loop, out)`: number of triples written", three u16 each. 5: "an output is shorter than the result needs", judged
 -- "for a ring's triangles by n-2, before 8". Definitions only.
-use Prim.Native.Nat.{ℕ, _+_, _-_, _*_, _≤_}
-use mathlib.Core.Path.{_≡_}
+use Prim.Native.Nat.{ℕ, _-_, _*_, _≤_}
 use mathlib.Core.Bool.{cond}
 use mathlib.Core.List.{List}
 use lib.ListN.{length, replicate}
@@ -16,8 +15,9 @@ use Rattle.loop_header.specs.Loops.{cutFault}
 use Rattle.loop_ask.specs.Answers.{Told, refused, answer}
 use Rattle.loop_triangles.specs.declared.Cut.{Cut}
 use Rattle.loop_triangles.specs.Triangles as T
+use Rattle.wire.specs.Wire.{numbersBytes}
 use Rattle.bytes_loop.specs.Outcome.{Outcome, outcome, refusalOf, outcomeBy}
-use Rattle.bytes_loop.specs.Layout.{countAt, headerAt, positionsAt, classesAt, numbersBytes, headerFault, frameFault}
+use Rattle.bytes_loop.specs.Layout.{headerAt, positionsAt, classesAt, headerFault, frameFault}
 use Rattle.bytes_ask.specs.Ask.{numberOf}
 
 -- how many triangles a loop has: none, 20 or n - 2
@@ -75,9 +75,3 @@ Counted c = Small (T.toldCut c)
 
 abbrev pub laidOutcome : Cut → List ℕ → List ℕ → Outcome ℕ
 laidOutcome c l out = toldOutcome (T.toldCut c) l out
-
--- a loop in bytes with an array for its positions
-pub record Array (s : List ℕ) (positions : ℕ) : Type 0 where
-  pub size : length s ≡ 88 + 49 * countAt s
-  pub most : countAt s ≤ 512
-  pub for-positions : positions ≡ 3 * countAt s

@@ -1,6 +1,6 @@
 // Triangles of loops in bytes. The positions are copied into a work array, the classes are read where they stand.
 ghost use mathlib.Core.Path.{_≡_};
-ghost use Prim.Native.Nat.{_+_, _*_, _≤_, _<_};
+ghost use Prim.Native.Nat.{_*_, _≤_};
 ghost use lib.ListN.{length};
 ghost use Rattle.bytes_loop.specs.Layout as F;
 ghost use Rattle.bytes_loop.specs.Outcome.{outcome};
@@ -34,7 +34,7 @@ fn leave_cut(c: Cut, triples: &[u16], out: &mut [u8]) -> u32
     match c {
         Cut::Refused(f) => refusal(f),
         Cut::Triangles(n) => {
-            bytes_loop::put_numbers(out, triples);
+            wire::put_numbers(out, triples);
             n as u32
         }
     }
@@ -73,12 +73,11 @@ fn cut_parts(h: Header, positions: &[f64], classes: &[u8], out: &mut [u8]) -> u3
 }
 
 fn cut_in(s: &[u8], positions: &mut [f64], out: &mut [u8]) -> u32
-    requires { ⌜ Cu.Array (now s) (length (now positions)) ⌝ }
+    requires { ⌜ F.Array (now s) (length (now positions)) ⌝ }
     ensures { λ r. ⌜ outcome r (now (out .exit)) ≡ Cu.partsOutcome (F.headerAt (now (s .entry))) (F.positionsAt (now (s .entry))) (F.classesAt (now (s .entry))) (now (out .entry)) ⌝ }
 {
-    let n = bytes_loop::count_at(s);
-    let from = 88 + 48 * n;
-    bytes_loop::read_floats(s, 88, positions);
+    let from = bytes_loop::classes_from(s);
+    bytes_loop::read_positions(s, positions);
     cut_parts(bytes_loop::header_at(s), positions, &s[from..], out)
 }
 

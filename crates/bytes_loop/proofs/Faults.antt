@@ -1,5 +1,5 @@
 -- Refusals by a length, and what none of them tells. Assumes nothing.
-use Prim.Native.Nat.{ℕ, zero, suc, _+_, _*_, _≤_}
+use Prim.Native.Nat.{ℕ, zero, suc, _≤_}
 use mathlib.Core.Path.{_≡_, refl}
 use mathlib.Core.Bool.{Bool, true, false, cond}
 use mathlib.Core.List.{List}
@@ -11,7 +11,7 @@ use Rattle.laws.proofs.Firsts.{first-zero, test-passed}
 use Rattle.loop_header.specs.declared.State.{State}
 use Rattle.loop_header.specs.declared.State.the-variants.{Empty, Full, Ring}
 use Rattle.bytes_loop.specs.Outcome.{Outcome, outcome, refusalOf, outcomeBy}
-use Rattle.bytes_loop.specs.Layout.{countAt, stateByte, stateOf, stateFault, sizeFault, headerFault, frameFault, largeFault, manyFault, copyFault}
+use Rattle.bytes_loop.specs.Layout.{headerSize, loopSize, countAt, stateByte, stateOf, stateFault, sizeFault, headerFault, frameFault, largeFault, manyFault, copyFault}
 
 module _ (size n : ℕ) where
   pub wrong-size : (size ≡ n → ⊥) → sizeFault size n ≡ 1
@@ -27,30 +27,30 @@ module _ (size n : ℕ) where
   size-right e = eqb-true size n (test-passed _ _ e)
 
 module _ (s : List ℕ) where
-  pub frame-wrong : (length s ≡ 88 + 49 * countAt s → ⊥) → 1 ≡ frameFault s
+  pub frame-wrong : (length s ≡ loopSize (countAt s) → ⊥) → 1 ≡ frameFault s
   unfolding frameFault
-  frame-wrong h = rw (wrong-size (length s) (88 + 49 * countAt s) h)
+  frame-wrong h = rw (wrong-size (length s) (loopSize (countAt s)) h)
 
-  pub frame-state : {f : ℕ} → length s ≡ 88 + 49 * countAt s → f ≡ stateFault s → f ≡ frameFault s
+  pub frame-state : {f : ℕ} → length s ≡ loopSize (countAt s) → f ≡ stateFault s → f ≡ frameFault s
   unfolding frameFault
-  frame-state h e = rw (right-size (length s) (88 + 49 * countAt s) h) e
+  frame-state h e = rw (right-size (length s) (loopSize (countAt s)) h) e
 
-  pub header-wrong : (length s ≡ 88 → ⊥) → 1 ≡ headerFault s
+  pub header-wrong : (length s ≡ headerSize → ⊥) → 1 ≡ headerFault s
   unfolding headerFault
-  header-wrong h = rw (wrong-size (length s) 88 h)
+  header-wrong h = rw (wrong-size (length s) headerSize h)
 
-  pub header-state : {f : ℕ} → length s ≡ 88 → f ≡ stateFault s → f ≡ headerFault s
+  pub header-state : {f : ℕ} → length s ≡ headerSize → f ≡ stateFault s → f ≡ headerFault s
   unfolding headerFault
-  header-state h e = rw (right-size (length s) 88 h) e
+  header-state h e = rw (right-size (length s) headerSize h) e
 
   -- no refusal
-  pub header-size : headerFault s ≡ 0 → length s ≡ 88
+  pub header-size : headerFault s ≡ 0 → length s ≡ headerSize
   unfolding headerFault
-  header-size e = size-right (length s) 88 (first-zero _ _ e .0)
+  header-size e = size-right (length s) headerSize (first-zero _ _ e .0)
 
-  pub frame-size : frameFault s ≡ 0 → length s ≡ 88 + 49 * countAt s
+  pub frame-size : frameFault s ≡ 0 → length s ≡ loopSize (countAt s)
   unfolding frameFault
-  frame-size e = size-right (length s) (88 + 49 * countAt s) (first-zero _ _ e .0)
+  frame-size e = size-right (length s) (loopSize (countAt s)) (first-zero _ _ e .0)
 
 large-not-none : (t : State) → largeFault t ≡ 0 → ⊥
 large-not-none Empty e = omega arith
@@ -63,7 +63,7 @@ many-none false t e = refl
 
 pub record Copyable (s : List ℕ) : Type 0 where
   pub framed : frameFault s ≡ 0
-  pub size : length s ≡ 88 + 49 * countAt s
+  pub size : length s ≡ loopSize (countAt s)
   pub most : countAt s ≤ 512
 
 pub copyable : (s : List ℕ) → copyFault s ≡ 0 → Copyable s

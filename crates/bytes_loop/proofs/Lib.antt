@@ -1,2 +1,2 @@
-pub mod Lays
 pub mod Faults
+pub mod Parts

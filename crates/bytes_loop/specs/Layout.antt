@@ -1,14 +1,15 @@
 -- A loop in bytes. "u16 count, u8 state, u8 marks (1 reversed, 2 weak, 4 insides present), four zero bytes, cap centre and radius (4 f64), two insides
 -- (6 f64, zero where absent), then 24n bytes of positions, 24n of normals, n of classes: 88 + 49n bytes. A state byte above 2 or a length that does not agree
 -- is refusal 1; unknown mark bits and the four bytes are passed over". Definitions only.
-use Prim.Native.Nat.{ℕ, _+_, _*_, _/_, _%_}
+use Prim.Native.Nat.{ℕ, _+_, _-_, _*_, _/_, _%_, _≤_}
+use mathlib.Core.Path.{_≡_}
 use mathlib.Core.Bool.{Bool, true, false, cond}
 use mathlib.Core.List.{List, [], _∷_, _++_}
 use lib.ListN.{length, getD, drop}
 use lib.Dec.{eqb, ltb}
-use lib.Ieee.{Float, nan}
+use lib.Ieee.{Float}
 use Rattle.numbers.specs.Choice.{if_then_else_}
-use Rattle.laws.specs.Loop.{first, flat}
+use Rattle.laws.specs.Loop.{first}
 use Rattle.vec3.specs.declared.Vec3.{Vec3}
 use Rattle.vec3.specs.Vec.{origin}
 use Rattle.chord_length.specs.Chords.{squared}
@@ -19,7 +20,20 @@ use Rattle.loop_header.specs.declared.State.{State}
 use Rattle.loop_header.specs.declared.State.the-variants.{Empty, Full, Ring}
 use Rattle.loop_header.specs.declared.Header.{Header}
 use Rattle.loop_header.specs.Loops as L
-use Rattle.wire.specs.Wire.{u16Of, floatOf, vecOf, bytes2, floatBytes, vecBytes}
+use Rattle.wire.specs.Wire.{u16Of, floatOf, vecOf, floatsAt, bytes2, floatBytes, vecBytes, floatsBytes}
+
+-- ---- sizes and places, of n corners
+abbrev pub headerSize : ℕ
+headerSize = 88
+
+abbrev pub normalsFrom : ℕ → ℕ
+normalsFrom n = headerSize + 24 * n
+
+abbrev pub classesFrom : ℕ → ℕ
+classesFrom n = headerSize + 48 * n
+
+abbrev pub loopSize : ℕ → ℕ
+loopSize n = headerSize + 49 * n
 
 -- ---- the header as it is read
 abbrev pub countAt : List ℕ → ℕ
@@ -56,28 +70,14 @@ headerAt s = record {
 }
 
 -- ---- the rest of a loop
-abbrev pub floatBlock : List ℕ → ℕ → ℕ → List Float
-floatBlock s at i = floatOf s (at + 8 * i) ∷ []
-
--- n floats from an offset on
-unfoldable pub floatsAt : List ℕ → ℕ → ℕ → List Float
-floatsAt s at n = flat (floatBlock s at) n 0
-
 abbrev pub positionsAt : List ℕ → List Float
-positionsAt s = floatsAt s 88 (3 * countAt s)
+positionsAt s = floatsAt s headerSize (3 * countAt s)
 
 abbrev pub normalsAt : List ℕ → List Float
-normalsAt s = floatsAt s (88 + 24 * countAt s) (3 * countAt s)
+normalsAt s = floatsAt s (normalsFrom (countAt s)) (3 * countAt s)
 
 abbrev pub classesAt : List ℕ → List ℕ
-classesAt s = drop (88 + 48 * countAt s) s
-
-abbrev pub numberBlock : List ℕ → ℕ → List ℕ
-numberBlock s i = u16Of s (2 * i) ∷ []
-
--- n numbers of two bytes each
-unfoldable pub numbersAt : List ℕ → ℕ → List ℕ
-numbersAt s n = flat (numberBlock s) n 0
+classesAt s = drop (classesFrom (countAt s)) s
 
 -- ---- refusal 1 of bytes, ahead of what the loop itself is refused for
 unfoldable pub stateFault : List ℕ → ℕ
@@ -89,10 +89,10 @@ sizeFault size n = cond (eqb size n) 0 1
 
 -- "an `_f64` header to be read that is not 88"
 unfoldable pub headerFault : List ℕ → ℕ
-headerFault s = first (sizeFault (length s) 88) (stateFault s)
+headerFault s = first (sizeFault (length s) headerSize) (stateFault s)
 
 unfoldable pub frameFault : List ℕ → ℕ
-frameFault s = first (sizeFault (length s) (88 + 49 * countAt s)) (stateFault s)
+frameFault s = first (sizeFault (length s) (loopSize (countAt s))) (stateFault s)
 
 -- ---- what cannot be copied into work arrays: a count above 512 is 2, or 1 where it does not fit its state
 abbrev pub largeFault : State → ℕ
@@ -140,14 +140,28 @@ insidesBytes i = vecBytes (firstInside i) ++ vecBytes (secondInside i)
 unfoldable pub headerBytes : Header → List ℕ
 headerBytes h = frontBytes (h .count) (stateCode (h .state)) (marksOf h) ++ capBytes (h .cap) ++ insidesBytes (h .insides)
 
-abbrev pub floatBytesAt : List Float → ℕ → List ℕ
-floatBytesAt l i = floatBytes (getD l i nan)
+abbrev pub loopBytes : Header → List Float → List Float → List ℕ → List ℕ
+loopBytes h ps ns cs = headerBytes h ++ floatsBytes ps ++ floatsBytes ns ++ cs
 
-unfoldable pub floatsBytes : List Float → List ℕ
-floatsBytes l = flat (floatBytesAt l) (length l) 0
+-- ---- inner
+-- the corners that bytes of a size have room for
+unfoldable pub cornersFor : ℕ → ℕ
+cornersFor size = if ltb size headerSize then 0 else (if ltb 512 ((size - headerSize) / 49) then 512 else (size - headerSize) / 49)
 
-abbrev pub numberBytesAt : List ℕ → ℕ → List ℕ
-numberBytesAt l i = bytes2 (getD l i 0)
+-- a loop in bytes whose length agrees, with an array of the size of its positions
+pub record Array (s : List ℕ) (positions : ℕ) : Type 0 where
+  pub size : length s ≡ loopSize (countAt s)
+  pub for-positions : positions ≡ 3 * countAt s
 
-unfoldable pub numbersBytes : List ℕ → List ℕ
-numbersBytes l = flat (numberBytesAt l) (length l) 0
+-- and with one for its normals too
+pub record Arrays (s : List ℕ) (positions normals : ℕ) : Type 0 where
+  pub size : length s ≡ loopSize (countAt s)
+  pub for-positions : positions ≡ 3 * countAt s
+  pub for-normals : normals ≡ 3 * countAt s
+
+-- the parts of a loop, and room for them in bytes
+pub record Parts (h : Header) (out positions normals classes : ℕ) : Type 0 where
+  pub room : loopSize (h .count) ≤ out
+  pub for-positions : positions ≡ 3 * h .count
+  pub for-normals : normals ≡ 3 * h .count
+  pub for-classes : classes ≡ h .count

@@ -13,6 +13,9 @@ use loop_header::State;
 use vec3::Insides;
 use vec3::Vec3;
 
+// How many bytes a header has; a loop's positions begin after it.
+pub const HEADER: usize = 88;
+
 // A refusal as it is answered.
 pub fn refusal(f: u8) -> u32
     ensures { λ r. ⌜ r ≡ refusalOf f ⌝ }
@@ -41,7 +44,7 @@ fn has_mark(marks: u8, mark: u8) -> bool
 }
 
 fn cap_at(s: &[u8]) -> Cap
-    requires { ⌜ 88 ≤ length (now s) ⌝ }
+    requires { ⌜ F.headerSize ≤ length (now s) ⌝ }
     ensures { λ r. ⌜ r ≡ F.capAt (now (s .entry)) ⌝ }
 {
     let centre = wire::vec_at(s, 8);
@@ -51,7 +54,7 @@ fn cap_at(s: &[u8]) -> Cap
 
 // The insides, by mark 4 alone: without it their bytes are not read.
 fn insides_at(s: &[u8]) -> Insides
-    requires { ⌜ 88 ≤ length (now s) ⌝ }
+    requires { ⌜ F.headerSize ≤ length (now s) ⌝ }
     ensures { λ r. ⌜ r ≡ F.insidesAt (now (s .entry)) ⌝ }
 {
     if has_mark(s[3], 4) {
@@ -62,16 +65,16 @@ fn insides_at(s: &[u8]) -> Insides
 }
 
 pub fn count_at(s: &[u8]) -> usize
-    requires { ⌜ 88 ≤ length (now s) ⌝ }
+    requires { ⌜ F.headerSize ≤ length (now s) ⌝ }
     ensures { λ r. ⌜ r ≡ F.countAt (now (s .entry)) ⌝ }
     ensures { λ r. ⌜ r < 65536 ⌝ }
 {
     wire::u16_at(s, 0) as usize
 }
 
-// The header in the first 88 bytes.
+// The header that the bytes begin with.
 pub fn header_at(s: &[u8]) -> Header
-    requires { ⌜ 88 ≤ length (now s) ⌝ }
+    requires { ⌜ F.headerSize ≤ length (now s) ⌝ }
     ensures { λ r. ⌜ r ≡ F.headerAt (now (s .entry)) ⌝ }
 {
     let count = count_at(s);
@@ -94,7 +97,7 @@ pub fn header_at(s: &[u8]) -> Header
 pub fn header_fault(s: &[u8]) -> u8
     ensures { λ r. ⌜ r ≡ F.headerFault (now (s .entry)) ⌝ }
 {
-    if s.len() != 88 {
+    if s.len() != HEADER {
         return 1;
     }
     if s[2] > 2 { 1 } else { 0 }
@@ -104,10 +107,10 @@ pub fn header_fault(s: &[u8]) -> u8
 fn frame_fault(s: &[u8]) -> u8
     ensures { λ r. ⌜ r ≡ F.frameFault (now (s .entry)) ⌝ }
 {
-    if s.len() < 88 {
+    if s.len() < HEADER {
         return 1;
     }
-    if s.len() != 88 + 49 * count_at(s) {
+    if s.len() != HEADER + 49 * count_at(s) {
         return 1;
     }
     if s[2] > 2 { 1 } else { 0 }
@@ -125,7 +128,7 @@ fn large_fault(state: State) -> u8
 }
 
 fn many_fault(s: &[u8]) -> u8
-    requires { ⌜ 88 ≤ length (now s) ⌝ }
+    requires { ⌜ F.headerSize ≤ length (now s) ⌝ }
     ensures { λ r. ⌜ r ≡ F.manyFault (now (s .entry)) ⌝ }
 {
     if count_at(s) > 512 {
@@ -145,24 +148,43 @@ pub fn copy_fault(s: &[u8]) -> u8
     many_fault(s)
 }
 
-// The floats from an offset on, as many as there is room for.
-pub fn read_floats(s: &[u8], at: usize, out: &mut [f64])
-    requires { ⌜ at + 8 * length (now out) ≤ length (now s) ⌝ }
-    ensures { λ _. ⌜ now (out .exit) ≡ F.floatsAt (now (s .entry)) at (length (now (out .entry))) ⌝ }
+// A loop's positions, into an array of their size.
+pub fn read_positions(s: &[u8], positions: &mut [f64])
+    requires { ⌜ F.Array (now s) (length (now positions)) ⌝ }
+    ensures { λ _. ⌜ now (positions .exit) ≡ F.positionsAt (now (s .entry)) ⌝ }
 {
-    for i in 0..out.len() {
-        out[i] = wire::float_at(s, at + 8 * i);
-    }
+    wire::read_floats(s, HEADER, positions);
 }
 
-// The numbers of two bytes each, as many as there is room for.
-pub fn read_numbers(s: &[u8], out: &mut [u16])
-    requires { ⌜ 2 * length (now out) ≤ length (now s) ⌝ }
-    ensures { λ _. ⌜ now (out .exit) ≡ F.numbersAt (now (s .entry)) (length (now (out .entry))) ⌝ }
+// A loop's positions and normals, into arrays of their size.
+pub fn read_vectors(s: &[u8], positions: &mut [f64], normals: &mut [f64])
+    requires { ⌜ F.Arrays (now s) (length (now positions)) (length (now normals)) ⌝ }
+    ensures { λ _. ⌜ now (positions .exit) ≡ F.positionsAt (now (s .entry)) ⌝ }
+    ensures { λ _. ⌜ now (normals .exit) ≡ F.normalsAt (now (s .entry)) ⌝ }
 {
-    for i in 0..out.len() {
-        out[i] = wire::u16_at(s, 2 * i) as u16;
+    let from = HEADER + 24 * count_at(s);
+    wire::read_floats(s, HEADER, positions);
+    wire::read_floats(s, from, normals);
+}
+
+// Where a loop's classes begin: they are read where they stand.
+pub fn classes_from(s: &[u8]) -> usize
+    requires { ⌜ F.headerSize ≤ length (now s) ⌝ }
+    ensures { λ r. ⌜ r ≡ F.classesFrom (F.countAt (now (s .entry))) ⌝ }
+{
+    HEADER + 48 * count_at(s)
+}
+
+// How many corners bytes of a size have room for: 512 are enough.
+pub fn corners_for(size: usize) -> usize
+    ensures { λ r. ⌜ r ≡ F.cornersFor size ⌝ }
+    ensures { λ r. ⌜ r ≤ 512 ⌝ }
+{
+    if size < HEADER {
+        return 0;
     }
+    let n = (size - HEADER) / 49;
+    if n > 512 { 512 } else { n }
 }
 
 fn state_code(state: State) -> u8
@@ -228,7 +250,7 @@ fn put_pair(out: &mut [u8], at: usize, a: u8, b: u8)
 
 // Count, state, marks and four zero bytes.
 fn put_front(out: &mut [u8], count: usize, code: u8, marks: u8)
-    requires { ⌜ 88 ≤ length (now out) ⌝ }
+    requires { ⌜ F.headerSize ≤ length (now out) ⌝ }
     ensures { λ _. ⌜ now (out .exit) ≡ sets (now (out .entry)) 0 (F.frontBytes count code marks) ⌝ }
 {
     wire::put_u16(out, 0, count as u64);
@@ -238,7 +260,7 @@ fn put_front(out: &mut [u8], count: usize, code: u8, marks: u8)
 }
 
 fn put_cap(out: &mut [u8], c: Cap)
-    requires { ⌜ 88 ≤ length (now out) ⌝ }
+    requires { ⌜ F.headerSize ≤ length (now out) ⌝ }
     ensures { λ _. ⌜ now (out .exit) ≡ sets (now (out .entry)) 8 (F.capBytes c) ⌝ }
 {
     wire::put_vec(out, 8, c.centre);
@@ -246,16 +268,16 @@ fn put_cap(out: &mut [u8], c: Cap)
 }
 
 fn put_insides(out: &mut [u8], i: Insides)
-    requires { ⌜ 88 ≤ length (now out) ⌝ }
+    requires { ⌜ F.headerSize ≤ length (now out) ⌝ }
     ensures { λ _. ⌜ now (out .exit) ≡ sets (now (out .entry)) 40 (F.insidesBytes i) ⌝ }
 {
     wire::put_vec(out, 40, first_inside(i));
     wire::put_vec(out, 64, second_inside(i));
 }
 
-// A header's 88 bytes.
+// A header's bytes.
 pub fn put_header(out: &mut [u8], h: Header)
-    requires { ⌜ 88 ≤ length (now out) ⌝ }
+    requires { ⌜ F.headerSize ≤ length (now out) ⌝ }
     ensures { λ _. ⌜ now (out .exit) ≡ sets (now (out .entry)) 0 (F.headerBytes h) ⌝ }
 {
     let state = h.state;
@@ -265,35 +287,14 @@ pub fn put_header(out: &mut [u8], h: Header)
     put_insides(out, insides);
 }
 
-pub fn put_floats(out: &mut [u8], at: usize, from: &[f64])
-    requires { ⌜ at + 8 * length (now from) ≤ length (now out) ⌝ }
-    ensures { λ _. ⌜ now (out .exit) ≡ sets (now (out .entry)) at (F.floatsBytes (now (from .entry))) ⌝ }
+// A loop's bytes: its header, its positions, its normals and its classes.
+pub fn put_loop(out: &mut [u8], h: Header, positions: &[f64], normals: &[f64], classes: &[u8])
+    requires { ⌜ F.Parts h (length (now out)) (length (now positions)) (length (now normals)) (length (now classes)) ⌝ }
+    ensures { λ _. ⌜ now (out .exit) ≡ sets (now (out .entry)) 0 (F.loopBytes h (now (positions .entry)) (now (normals .entry)) (now (classes .entry))) ⌝ }
 {
-    for i in 0..from.len() {
-        wire::put_float(out, at + 8 * i, from[i]);
-    }
-}
-
-pub fn put_bytes(out: &mut [u8], at: usize, from: &[u8])
-    requires { ⌜ at + length (now from) ≤ length (now out) ⌝ }
-    ensures { λ _. ⌜ now (out .exit) ≡ sets (now (out .entry)) at (now (from .entry)) ⌝ }
-{
-    for i in 0..from.len() {
-        out[at + i] = from[i];
-    }
-}
-
-fn wide(n: u16) -> u64
-    ensures { λ r. ⌜ r ≡ n ⌝ }
-{
-    n as u64
-}
-
-pub fn put_numbers(out: &mut [u8], from: &[u16])
-    requires { ⌜ 2 * length (now from) ≤ length (now out) ⌝ }
-    ensures { λ _. ⌜ now (out .exit) ≡ sets (now (out .entry)) 0 (F.numbersBytes (now (from .entry))) ⌝ }
-{
-    for i in 0..from.len() {
-        wire::put_u16(out, 2 * i, wide(from[i]));
-    }
+    let n = h.count;
+    put_header(out, h);
+    wire::put_floats(out, HEADER, positions);
+    wire::put_floats(out, HEADER + 24 * n, normals);
+    wire::put_bytes(out, HEADER + 48 * n, classes);
 }

@@ -1,11 +1,9 @@
 -- Two loops, each refused ahead of being copied or copied. Assumes nothing.
-use Prim.Native.Nat.{ℕ, zero, suc, _+_, _-_, _*_}
+use Prim.Native.Nat.{ℕ, zero, suc}
 use mathlib.Core.Path.{_≡_, refl, sym, _∙_}
 use mathlib.Core.List.{List}
-use lib.ListN.{length, take, drop}
 use lib.Ieee.{Float}
 use Rattle.laws.specs.Loop.{first}
-use Rattle.laws.proofs.Rests.{rest}
 use Rattle.loop_header.specs.declared.Header.{Header}
 use Rattle.loop_header.specs.Loops.{loopFault}
 use Rattle.loop_ask.specs.Answers.{refused, judged}
@@ -13,7 +11,7 @@ use Rattle.loop_ask.specs.Questions.{pairFault, equivalentAnswer}
 use Rattle.loop_ask.proofs.Judged.{was-refused}
 use Rattle.loop_relate.specs.Relations.{relateAnswer}
 use Rattle.bytes_loop.specs.Outcome.{refusalOf}
-use Rattle.bytes_loop.specs.Layout.{countAt, headerAt, floatsAt, positionsAt, normalsAt, classesAt, headerFault, frameFault, copyFault}
+use Rattle.bytes_loop.specs.Layout.{headerAt, positionsAt, normalsAt, classesAt, headerFault, frameFault, copyFault}
 use Rattle.bytes_ask.specs.Ask.{numberOf}
 use Rattle.bytes_ask.proofs.Asks.{told-early, copies}
 use Rattle.bytes_pair.specs.declared.Comparison.{Comparison}
@@ -53,17 +51,16 @@ module _ (h : Header) (ps ns : List Float) (cs : List ℕ) (o : Header) (qs ms :
       at zero e = rw (w e)
       at (suc k) e = refl
 
--- ---- the parts as they were copied
-pub copied : {A : Type 0} (of : Header → List Float → List Float → List ℕ → A) (s : List ℕ) {n a b : ℕ} {h : Header} {ps ns : List Float} {r : A} → n ≡ countAt s → h ≡ headerAt s
-    → ps ≡ floatsAt s 88 a → a ≡ 3 * countAt s → ns ≡ floatsAt s (88 + 24 * n) b → b ≡ 3 * countAt s
-    → r ≡ of h ps ns (take (length s - (88 + 48 * n)) (drop (88 + 48 * n) s)) → r ≡ of (headerAt s) (positionsAt s) (normalsAt s) (classesAt s)
-copied of s e f g i j k t = rw (f, g, i, j, k, e, rest (88 + 48 * countAt s) s) at t
-
 -- ---- the first loop in bytes
 module _ (q : Comparison) (a b : List ℕ) {f r : ℕ} (e : f ≡ copyFault a) where
   pub first-early : (f ≡ 0 → ⊥) → r ≡ refusalOf f → r ≡ numberOf (pairTold q a b)
   first-early h t =
-      rw (t, e, told-early a (againstTold q (headerAt a) (positionsAt a) (normalsAt a) (classesAt a) b) (λ k. next-refused (headerAt a) (positionsAt a) (normalsAt a) (classesAt a) (headerAt b) (positionsAt b) (normalsAt b) (classesAt b) q (frameFault b)) (λ z. h (e ∙ z)))
+      rw (
+        t,
+        e,
+        told-early a (againstTold q (headerAt a) (positionsAt a) (normalsAt a) (classesAt a) b)
+            (λ k. next-refused (headerAt a) (positionsAt a) (normalsAt a) (classesAt a) (headerAt b) (positionsAt b) (normalsAt b) (classesAt b) q (frameFault b)) (λ z. h (e ∙ z)),
+      )
 
   pub first-late : f ≡ 0 → r ≡ numberOf (againstTold q (headerAt a) (positionsAt a) (normalsAt a) (classesAt a) b) → r ≡ numberOf (pairTold q a b)
   first-late z t = rw (copies a e z .framed) t

@@ -87,13 +87,11 @@ fn copy_second(
     others: &mut [f64],
     theirs: &mut [f64],
 ) -> u32
-    requires { ⌜ As.Arrays (now b) (length (now others)) (length (now theirs)) ⌝ }
+    requires { ⌜ F.Arrays (now b) (length (now others)) (length (now theirs)) ⌝ }
     ensures { λ r. ⌜ r ≡ As.numberOf (Pa.toldOf q h (now (positions .entry)) (now (normals .entry)) (now (classes .entry)) (F.headerAt (now (b .entry))) (F.positionsAt (now (b .entry))) (F.normalsAt (now (b .entry))) (F.classesAt (now (b .entry)))) ⌝ }
 {
-    let n = bytes_loop::count_at(b);
-    let from = 88 + 48 * n;
-    bytes_loop::read_floats(b, 88, others);
-    bytes_loop::read_floats(b, 88 + 24 * n, theirs);
+    let from = bytes_loop::classes_from(b);
+    bytes_loop::read_vectors(b, others, theirs);
     let o = bytes_loop::header_at(b);
     compare(
         q,
@@ -140,13 +138,11 @@ fn against(
 
 // The first loop copied into its work arrays.
 fn copy_first(q: Comparison, a: &[u8], b: &[u8], positions: &mut [f64], normals: &mut [f64]) -> u32
-    requires { ⌜ As.Arrays (now a) (length (now positions)) (length (now normals)) ⌝ }
+    requires { ⌜ F.Arrays (now a) (length (now positions)) (length (now normals)) ⌝ }
     ensures { λ r. ⌜ r ≡ As.numberOf (Pa.againstTold q (F.headerAt (now (a .entry))) (F.positionsAt (now (a .entry))) (F.normalsAt (now (a .entry))) (F.classesAt (now (a .entry))) (now (b .entry))) ⌝ }
 {
-    let n = bytes_loop::count_at(a);
-    let from = 88 + 48 * n;
-    bytes_loop::read_floats(a, 88, positions);
-    bytes_loop::read_floats(a, 88 + 24 * n, normals);
+    let from = bytes_loop::classes_from(a);
+    bytes_loop::read_vectors(a, positions, normals);
     against(
         q,
         bytes_loop::header_at(a),

@@ -2,12 +2,10 @@
 -- then 24 bytes a position. Kind 2: u16 area number, one position. Kind 3: two u16 area numbers." Definitions only.
 use Prim.Native.Nat.{ℕ, _+_, _*_, _/_, _%_}
 use mathlib.Core.Bool.{cond}
-use mathlib.Core.List.{List, [], _∷_}
+use mathlib.Core.List.{List}
 use lib.ListN.{length}
 use lib.Dec.{ltb, leb, eqb}
 use lib.Ieee.{Float}
-use Rattle.laws.specs.Loop.{flat}
-use Rattle.wire.specs.Wire.{floatOf}
 use Rattle.wire.specs.Wire as W
 use Rattle.scene_records.specs.declared.Fault.the-variants.{CutShort, UnknownKind, WrongLength}
 use Rattle.scene_records.specs.declared.Read.{Read}
@@ -53,8 +51,5 @@ sizeOf (Place number) = 32
 sizeOf (Pair first second) = 10
 
 -- the floats of n positions from an offset on
-abbrev pub oneFloat : List ℕ → ℕ → ℕ → List Float
-oneFloat s at i = floatOf s (at + 8 * i) ∷ []
-
-unfoldable pub floatsAt : List ℕ → ℕ → ℕ → List Float
-floatsAt s at n = flat (oneFloat s at) (3 * n) 0
+abbrev pub floatsAt : List ℕ → ℕ → ℕ → List Float
+floatsAt s at n = W.floatsAt s at (3 * n)

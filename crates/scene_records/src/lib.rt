@@ -1,6 +1,6 @@
 // The records of a scene, read out of its bytes: each is a u32 body length, a u16 kind and the body, all little-endian.
 ghost use mathlib.Core.Path.{_≡_};
-ghost use Prim.Native.Nat.{_+_, _*_, _≤_, _<_};
+ghost use Prim.Native.Nat.{_+_, _≤_, _<_};
 ghost use lib.ListN.{length};
 ghost use Rattle.scene_records.specs.Records as R;
 
@@ -105,14 +105,4 @@ pub fn read_at(s: &[u8], at: usize) -> Read
         return Read::Bad(Fault::CutShort, at);
     }
     kind_at(s, at, len)
-}
-
-// The n positions that stand from an offset on, as floats. A NaN or an infinity is read as one.
-pub fn read_positions(s: &[u8], at: usize, n: usize, list: &mut [f64])
-    requires { ⌜ (length (now s) ≤ 65536) × (at + 24 * n ≤ length (now s)) × (length (now list) ≡ 3 * n) ⌝ }
-    ensures { λ _. ⌜ now (list .exit) ≡ R.floatsAt (now (s .entry)) at n ⌝ }
-{
-    for i in 0..list.len() {
-        list[i] = wire::float_at(s, at + 8 * i);
-    }
 }

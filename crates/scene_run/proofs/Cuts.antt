@@ -13,7 +13,8 @@ use lib.Ieee.Bits.{ofBits-fits}
 use borrow.Author.Tests.{ltb-false, le-ltb}
 use Rattle.laws.specs.Loop.{firstOf, flat}
 use Rattle.laws.proofs.Blocks.{getD-flat}
-use Rattle.wire.specs.Wire.{u64Of}
+use Rattle.wire.specs.Wire.{u64Of, floatBlock}
+use Rattle.wire.specs.Wire as W
 use Rattle.angle.specs.Angles.{weak}
 use Rattle.ring_turns.specs.Turns.{turnSum}
 use Rattle.ring_corners.specs.Corners.{reversal, cornerAt, ringOf, classesOf, allBoth}
@@ -29,7 +30,7 @@ use Rattle.loop_ask.specs.Answers.{Told, refused, answer}
 use Rattle.loop_triangles.specs.Triangles.{cutTold, fullOutcome, triangulateOutcome}
 use Rattle.loop_triangles.specs.Triangles as T
 use Rattle.loop_triangles.proofs.Demand.{cut-is}
-use Rattle.scene_records.specs.Records.{oneFloat, floatsAt}
+use Rattle.scene_records.specs.Records.{floatsAt}
 use Rattle.scene_store.specs.declared.Area.{Area}
 use Rattle.scene_store.specs.Store.{corners, codes, builtAt, blank}
 use Rattle.scene_store.proofs.Counts.{floats-count}
@@ -105,11 +106,11 @@ module _ (l : List Float) (d : Doubles l) (used : ℕ) (ps ns : List Float) (cs 
 
 -- what is read from bytes are doubles
 read-doubles : (s : List ℕ) (at n : ℕ) → Doubles (floatsAt s at n)
-unfolding floatsAt
+unfolding W.floatsAt
 read-doubles s at n i h =
     let e : 1 * i + 0 ≡ i = omega arith in
-    let g = getD-flat nan 1 (oneFloat s at) (λ j. refl) (3 * n) 0 i 0 (omega (arith, floats-count s at n)) (omega arith) in
-    rw (ap (λ (j : ℕ). getD (flat (oneFloat s at) (3 * n) 0) j nan) (sym e) ∙ g) (ofBits-fits binary64 (u64Of s (at + 8 * (0 + i))))
+    let g = getD-flat nan 1 (floatBlock s at) (λ j. refl) (3 * n) 0 i 0 (omega (arith, floats-count s at n)) (omega arith) in
+    rw (ap (λ (j : ℕ). getD (flat (floatBlock s at) (3 * n) 0) j nan) (sym e) ∙ g) (ofBits-fits binary64 (u64Of s (at + 8 * (0 + i))))
 
 -- the area of a header that was built from a record's bytes into the rest of the store, cut as `triangleCount` cuts it
 abbrev pub areaAt : ℕ → ℕ → Header → Area

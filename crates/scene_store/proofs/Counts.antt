@@ -1,13 +1,13 @@
 -- A ring that is built has no more corners than the list has positions. Assumes nothing.
 use Prim.Native.Nat.{ℕ, zero, suc, _*_, _/_, _≤_}
-use mathlib.Core.Path.{_≡_, refl, ap}
+use mathlib.Core.Path.{_≡_, ap}
 use mathlib.Core.Bool.{Bool, true, false}
 use mathlib.Core.List.{List}
 use native.Mathlib.Omega.{arith}
 use lib.ListN.{length, drop}
 use lib.Dec.{ltb}
 use lib.Ieee.{Float}
-use Rattle.laws.proofs.Copies.{length-flat}
+use Rattle.wire.proofs.Lays.{floats-length}
 use Rattle.angle.specs.Angles.{weak}
 use Rattle.ring_turns.specs.Turns.{turnSum}
 use Rattle.ring_corners.specs.Corners.{reversal, classesOf, allBoth}
@@ -15,12 +15,11 @@ use Rattle.ring_corners.proofs.Openings.{opened-le}
 use Rattle.loop_header.specs.declared.Header.{Header}
 use Rattle.loop_header.specs.Loops.{emptyHeader, fullHeader}
 use Rattle.loop_build.specs.Build.{loop, openedCount, refusal, ringHeader, made, madeIf, buildOutcome, outcomeBy, outcomeIf}
-use Rattle.scene_records.specs.Records.{oneFloat, floatsAt}
+use Rattle.scene_records.specs.Records.{floatsAt}
 use Rattle.scene_store.specs.Store.{builtAt}
 
 pub floats-count : (s : List ℕ) (at n : ℕ) → length (floatsAt s at n) ≡ 3 * n
-unfolding floatsAt
-floats-count s at n = length-flat (oneFloat s at) (λ j. refl) (3 * n) 0
+floats-count s at n = floats-length s at (3 * n)
 
 same-header : {a b : Header} → loop a ≡ loop b → a .count ≡ b .count
 same-header {a} {b} e = let q : a ≡ b = cc in ap (λ (h : Header). h .count) q

@@ -36,7 +36,7 @@ fn build_from(
     requires { ⌜ St.Room (now s) at count used (length (now list)) (length (now positions)) (length (now normals)) (length (now classes)) ⌝ }
     ensures { λ r. ⌜ record { answer = B.told r; positions = now (positions .exit); normals = now (normals .exit); classes = now (classes .exit) } ≡ St.builtAt (floatsAt (now (s .entry)) at count) used (now (positions .entry)) (now (normals .entry)) (now (classes .entry)) ⌝ }
 {
-    scene_records::read_positions(s, at, count, list);
+    wire::read_floats(s, at, list);
     let from = 3 * used;
     loop_build::build(
         list,

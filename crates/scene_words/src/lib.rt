@@ -9,9 +9,7 @@ pub fn put(out: &mut [u8], at: usize, word: &[u8]) -> usize
     requires { ⌜ at + length (now word) ≤ length (now out) ⌝ }
     ensures { λ r. ⌜ W.Wrote (now (out .entry)) at (now (word .entry)) (now (out .exit)) r ⌝ }
 {
-    for i in 0..word.len() {
-        out[at + i] = word[i];
-    }
+    wire::put_bytes(out, at, word);
     at + word.len()
 }
 

@@ -86,7 +86,7 @@ fn read_ring(bytes: &[u8], positions: &mut [f64])
     requires { ⌜ Bytes (length (now bytes)) (length (now positions)) ⌝ }
 {
     let from = 8 * positions.len();
-    bytes_loop::read_floats(bytes, 0, positions);
+    wire::read_floats(bytes, 0, positions);
     cut(positions, &bytes[from..]);
 }
 

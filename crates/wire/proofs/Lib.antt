@@ -1,2 +1,3 @@
 pub mod Bytes
 pub mod Back
+pub mod Lays

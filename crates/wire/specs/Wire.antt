@@ -1,8 +1,9 @@
 -- Little-endian numbers, floats and vectors in bytes. Document 01: "all little-endian"; "Every position or normal handed in is made free of -0.0". Definitions only.
 use Prim.Native.Nat.{ℕ, _+_, _*_, _/_, _%_}
 use mathlib.Core.List.{List, [], _∷_, _++_}
-use lib.ListN.{getD}
-use lib.Ieee.{Float, binary64, ofBits, toBits}
+use lib.ListN.{length, getD}
+use lib.Ieee.{Float, nan, binary64, ofBits, toBits}
+use Rattle.laws.specs.Loop.{flat}
 use Rattle.vec3.specs.declared.Vec3.{Vec3}
 use Rattle.vec3.specs.Vec.{vec}
 
@@ -22,6 +23,20 @@ floatOf s at = ofBits binary64 (u64Of s at)
 abbrev pub vecOf : List ℕ → ℕ → Vec3
 vecOf s at = vec (floatOf s at) (floatOf s (at + 8)) (floatOf s (at + 16))
 
+-- n floats from an offset on
+abbrev pub floatBlock : List ℕ → ℕ → ℕ → List Float
+floatBlock s at i = floatOf s (at + 8 * i) ∷ []
+
+unfoldable pub floatsAt : List ℕ → ℕ → ℕ → List Float
+floatsAt s at n = flat (floatBlock s at) n 0
+
+-- n numbers of two bytes each
+abbrev pub numberBlock : List ℕ → ℕ → List ℕ
+numberBlock s i = u16Of s (2 * i) ∷ []
+
+unfoldable pub numbersAt : List ℕ → ℕ → List ℕ
+numbersAt s n = flat (numberBlock s) n 0
+
 -- the bytes of a number, of a float (of a NaN those of 7FF8000000000000) and of a vector
 abbrev pub bytes2 : ℕ → List ℕ
 bytes2 n = n % 256 ∷ n / 256 % 256 ∷ []
@@ -34,3 +49,16 @@ floatBytes x = bytes8 (toBits binary64 x)
 
 abbrev pub vecBytes : Vec3 → List ℕ
 vecBytes v = floatBytes (v .x) ++ floatBytes (v .y) ++ floatBytes (v .z)
+
+-- the bytes of floats, and of numbers of two bytes each
+abbrev pub floatBytesAt : List Float → ℕ → List ℕ
+floatBytesAt l i = floatBytes (getD l i nan)
+
+unfoldable pub floatsBytes : List Float → List ℕ
+floatsBytes l = flat (floatBytesAt l) (length l) 0
+
+abbrev pub numberBytesAt : List ℕ → ℕ → List ℕ
+numberBytesAt l i = bytes2 (getD l i 0)
+
+unfoldable pub numbersBytes : List ℕ → List ℕ
+numbersBytes l = flat (numberBytesAt l) (length l) 0

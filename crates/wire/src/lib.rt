@@ -1,10 +1,10 @@
-// Little-endian numbers, floats and vectors in lent bytes: read and written here, and nowhere else.
+// Little-endian numbers, floats and vectors in lent bytes, and lists of them: read and written here, and nowhere else.
 ghost use mathlib.Core.Path.{_≡_};
-ghost use Prim.Native.Nat.{_+_, _≤_, _<_};
+ghost use Prim.Native.Nat.{_+_, _*_, _≤_, _<_};
 ghost use lib.ListN.{length};
 ghost use lib.Seq.{sets};
 ghost use lib.Ieee.{binary64, ofBits, toBits};
-ghost use Rattle.wire.specs.Wire.{u16Of, u32Of, u64Of, floatOf, vecOf, bytes2, bytes8, floatBytes, vecBytes};
+ghost use Rattle.wire.specs.Wire.{u16Of, u32Of, u64Of, floatOf, vecOf, floatsAt, numbersAt, bytes2, bytes8, floatBytes, vecBytes, floatsBytes, numbersBytes};
 use vec3::Vec3;
 
 fn wide(b: u8) -> u64
@@ -106,4 +106,57 @@ pub fn put_vec(out: &mut [u8], at: usize, v: Vec3)
     put_float(out, at, v.x);
     put_float(out, at + 8, v.y);
     put_float(out, at + 16, v.z);
+}
+
+// The floats from an offset on, as many as there is room for.
+pub fn read_floats(s: &[u8], at: usize, out: &mut [f64])
+    requires { ⌜ at + 8 * length (now out) ≤ length (now s) ⌝ }
+    ensures { λ _. ⌜ now (out .exit) ≡ floatsAt (now (s .entry)) at (length (now (out .entry))) ⌝ }
+{
+    for i in 0..out.len() {
+        out[i] = float_at(s, at + 8 * i);
+    }
+}
+
+// The numbers of two bytes each, as many as there is room for.
+pub fn read_numbers(s: &[u8], out: &mut [u16])
+    requires { ⌜ 2 * length (now out) ≤ length (now s) ⌝ }
+    ensures { λ _. ⌜ now (out .exit) ≡ numbersAt (now (s .entry)) (length (now (out .entry))) ⌝ }
+{
+    for i in 0..out.len() {
+        out[i] = u16_at(s, 2 * i) as u16;
+    }
+}
+
+pub fn put_floats(out: &mut [u8], at: usize, from: &[f64])
+    requires { ⌜ at + 8 * length (now from) ≤ length (now out) ⌝ }
+    ensures { λ _. ⌜ now (out .exit) ≡ sets (now (out .entry)) at (floatsBytes (now (from .entry))) ⌝ }
+{
+    for i in 0..from.len() {
+        put_float(out, at + 8 * i, from[i]);
+    }
+}
+
+pub fn put_bytes(out: &mut [u8], at: usize, from: &[u8])
+    requires { ⌜ at + length (now from) ≤ length (now out) ⌝ }
+    ensures { λ _. ⌜ now (out .exit) ≡ sets (now (out .entry)) at (now (from .entry)) ⌝ }
+{
+    for i in 0..from.len() {
+        out[at + i] = from[i];
+    }
+}
+
+fn wide_number(n: u16) -> u64
+    ensures { λ r. ⌜ r ≡ n ⌝ }
+{
+    n as u64
+}
+
+pub fn put_numbers(out: &mut [u8], from: &[u16])
+    requires { ⌜ 2 * length (now from) ≤ length (now out) ⌝ }
+    ensures { λ _. ⌜ now (out .exit) ≡ sets (now (out .entry)) 0 (numbersBytes (now (from .entry))) ⌝ }
+{
+    for i in 0..from.len() {
+        put_u16(out, 2 * i, wide_number(from[i]));
+    }
 }

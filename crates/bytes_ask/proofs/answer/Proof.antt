@@ -1,3 +1,4 @@
+-- A question that needs no position is answered at once; else one of another length than 24 is refused after the loop, and any other is read.
 use Rattle.vec3.specs.Vec.{origin}
 use borrow.Author.Tests.{not-true, not-false}
 use Rattle.bytes_ask.proofs.Asks.{no-position, wrong-position, at-position}
@@ -10,11 +11,19 @@ answer-spec =
     tie.close
     (tie.spec
     (λ c κs. search needs) (λ c κs. search needs)
-    (λ c. let n = c .before .before in let a = n .before .before .before .before .before .args in
-    no-position (a .h) (a .positions .now) (a .normals .now) (a .classes .now) (a .q) (a .position .now) (n .needs-position .ensures) origin (not-true (n .needs-position .result) (c .before .if1 .taken)) (c .query .ensures))
+    (λ c. let asked = c .before .before in
+    let a = asked .before .before .before .before .before .args in
+    no-position (a .h) (a .positions .now) (a .normals .now) (a .classes .now) (a .q) (a .position .now) (asked .needs-position .ensures) origin
+    (not-true (asked .needs-position .result) (c .before .if1 .taken)) (c .query .ensures))
     (λ c κs. search needs)
-    (λ c. let n = c .before .before .before in let a = n .before .before .before .before .before .args in
-    wrong-position (a .h) (a .positions .now) (a .normals .now) (a .classes .now) (a .q) (a .position .now) (n .needs-position .ensures) (not-false (n .needs-position .result) (c .before .before .if1 .left)) (c .before .if2 .taken) (c .no-query .ensures))
+    (λ c. let long = c .before in
+    let asked = long .before .before in
+    let a = asked .before .before .before .before .before .args in
+    wrong-position (a .h) (a .positions .now) (a .normals .now) (a .classes .now) (a .q) (a .position .now) (asked .needs-position .ensures)
+    (not-false (asked .needs-position .result) (long .before .if1 .left)) (long .if2 .taken) (c .no-query .ensures))
     (λ c κs. search needs) (λ c κs. search needs)
-    (λ c. let n = c .before .before .before .before in let a = n .before .before .before .before .before .args in
-    at-position (a .h) (a .positions .now) (a .normals .now) (a .classes .now) (a .q) (a .position .now) (n .needs-position .ensures) (not-false (n .needs-position .result) (c .before .before .before .if1 .left)) (c .before .before .if2 .left) (simp (c .before .vec-at .ensures) at (c .query2 .ensures))))
+    (λ c. let long = c .before .before in
+    let asked = long .before .before in
+    let a = asked .before .before .before .before .before .args in
+    at-position (a .h) (a .positions .now) (a .normals .now) (a .classes .now) (a .q) (a .position .now) (asked .needs-position .ensures)
+    (not-false (asked .needs-position .result) (long .before .if1 .left)) (long .if2 .left) (simp (c .before .vec-at .ensures) at (c .query2 .ensures))))

@@ -1,3 +1,4 @@
+-- A header that is refused is the answer; else the header is read, and the place is the one that the loop answers.
 use native.Mathlib.Omega.{arith}
 use mathlib.Core.Path.{sym, _∙_}
 use Rattle.bytes_loop.proofs.Faults.{header-size}
@@ -14,4 +15,7 @@ place-spec =
     (λ c. gone-number _ (c .before .before .header-fault .ensures) (c .before .if1 .taken) (c .refusal .ensures))
     (λ c κs. omega (arith, header-size _ (sym (c .before .header-fault .ensures) ∙ c .if1 .left)))
     (λ c κs. search needs) (λ c κs. search needs)
-    (λ c. went-number _ (c .before .before .before .before .header-fault .ensures) (c .before .before .before .if1 .left) (simp (c .before .before .header-at .ensures) at (c .before .contains-position .ensures)) (c .placed .ensures)))
+    (λ c. let asked = c .before in
+    let header = asked .before in
+    let fine = header .before in
+    went-number _ (fine .before .header-fault .ensures) (fine .if1 .left) (simp (header .header-at .ensures) at (asked .contains-position .ensures)) (c .placed .ensures)))

@@ -1,3 +1,4 @@
+-- A list that is not in positions, or is too long, is refused; any other is read into work arrays of the bytes' room and built there.
 use native.Mathlib.Omega.{arith}
 use mathlib.Core.Path.{sym}
 use Rattle.numbers.specs.F64 as F
@@ -23,7 +24,14 @@ build-spec =
     (λ c. sym (first-of 1536 F.zero (omega arith)))
     (λ c. search needs)
     (λ c. sym (first-of 512 0 (omega arith)))
-    (λ c κs. let n = c .before .before .before .before .before .room-of .ensures in
-    (roomy _ (n .0) (first-of 1536 F.zero (omega arith)) (first-of 1536 F.zero (omega arith)) (first-of 512 0 (omega arith)), given-size (c .before .before .before .before .before .before .before .before .before .before .args .list .now) _ (first-of 1536 F.zero (omega arith)) (c .before .before .before .before .before .before .before .if1 .left)))
+    (λ c κs. let room = c .before .before .before .before .before in
+    let positions = room .before .before in
+    let start = positions .before .before .before in
+    let many = room .corners-for .ensures in (
+      roomy _ (many .0) (first-of 1536 F.zero (omega arith)) (first-of 1536 F.zero (omega arith)) (first-of 512 0 (omega arith)),
+      given-size (start .args .list .now) _ (first-of 1536 F.zero (omega arith)) (positions .if1 .left),
+    ))
     (λ c. search needs)
-    (λ c. in-bytes _ _ (c .before .before .before .before .before .before .before .before .before .before .before .before .before .before .if1 .left) (c .before .before .before .before .before .before .build-in .ensures)))
+    (λ c. let built = c .before .before .before .before .before .before in
+    let positions = built .before .before .before .before .before .before .before .before in
+    in-bytes _ _ (positions .if1 .left) (built .build-in .ensures)))

@@ -1,3 +1,4 @@
+-- A header without room is refused after the list's own refusals; else what is built leaves its header there.
 use native.Mathlib.Omega.{arith}
 use Rattle.bytes_build.proofs.Builds.{counted-told, headed, unheaded}
 use borrow.Author.Needs.{needs}
@@ -9,11 +10,24 @@ build-floats-spec =
     tie.close
     (tie.spec
     (λ c κs. search needs) (λ c κs. search needs) (λ c κs. search needs)
-    (λ c. let a = c .before .before .before .before .before .before .before .before .before .args in
-    unheaded (a .list .now) (a .positions .now) (a .normals .now) (a .classes .now) (a .header .now) (omega (arith, c .before .before .before .if1 .taken)) (simp (c .before .first .ensures, c .before .before .list-fault .ensures) at (c .refusal .ensures)))
+    (λ c. let first = c .before in
+    let fault = first .before in
+    let short = fault .before in
+    let start = short .before .before .before .before .before .before in
+    let a = start .args in
+    unheaded (a .list .now) (a .positions .now) (a .normals .now) (a .classes .now) (a .header .now) (omega (arith, short .if1 .taken))
+    (simp (first .first .ensures, fault .list-fault .ensures) at (c .refusal .ensures)))
     (λ c κs. search needs)
-    (λ c κs. let a = c .before .before .before .before .before .before .before .before .before .before .before .before .before .before .before .before .before .args in
-    (counted-told (a .list .now) (a .positions .now) (a .normals .now) (a .classes .now) (a .header .now) (c .before .before .before .before .before .before .before .build .ensures), c .before .before .before .before .before .before .before .before .before .before .before .if1 .left))
+    (λ c κs. let built = c .before .before .before .before .before .before .before in
+    let room = built .before .before .before .before in
+    let start = room .before .before .before .before .before .before in
+    let a = start .args in
+    (counted-told (a .list .now) (a .positions .now) (a .normals .now) (a .classes .now) (a .header .now) (built .build .ensures), room .if1 .left))
     (λ c. search needs) (λ c. search needs) (λ c. search needs) (λ c. search needs)
-    (λ c. let a = c .before .before .before .before .before .before .before .before .before .before .before .before .before .before .before .before .before .before .before .before .args in
-    headed (a .list .now) (a .positions .now) (a .normals .now) (a .classes .now) (a .header .now) (c .before .before .before .before .before .before .before .before .before .before .build .ensures) (c .before .before .before .before .before .before .before .before .before .before .before .before .before .before .if1 .left) (c .before .before .leave-header .ensures)))
+    (λ c. let left = c .before .before in
+    let built = left .before .before .before .before .before .before .before .before in
+    let room = built .before .before .before .before in
+    let start = room .before .before .before .before .before .before in
+    let a = start .args in
+    headed (a .list .now) (a .positions .now) (a .normals .now) (a .classes .now) (a .header .now) (built .build .ensures) (room .if1 .left)
+    (left .leave-header .ensures)))

@@ -1,3 +1,4 @@
+-- What is built in the arrays is refused as its bytes are, or fits the bytes and is written there.
 use Rattle.bytes_build.proofs.Builds.{was-refused, was-written, fitting}
 use borrow.Author.Needs.{needs}
 use Rattle.bytes_build.proofs.build_from.Statement.{statement}
@@ -8,11 +9,24 @@ build-from-spec =
     tie.close
     (tie.spec
     (λ c κs. search needs) (λ c. search needs) (λ c κs. search needs) (λ c. search needs)
-    (λ c κs. let a = c .before .before .before .before .before .before .before .before .before .before .before .before .before .before .before .before .before .before .before .before .before .before .args in
-    fitting (a .list .now) (a .positions .now) (a .normals .now) (a .classes .now) (a .out .now) (c .before .before .before .before .before .before .before .before .before .before .before .before .before .before .before .before .before .before .before .before .before .before .pre) (simp (c .before .before .before .before .before .b2 .given .1) at (c .before .before .before .before .before .before .before .before .before .before .before .before .before .build .ensures)) (search needs) (search needs) (search needs))
+    (λ c κs. let told = c .before .before .before .before .before in
+    let built = told .before .before .before .before .before .before .before .before in
+    let start = built .before .before .before .before .before .before .before .before .before in
+    let a = start .args in
+    fitting (a .list .now) (a .positions .now) (a .normals .now) (a .classes .now) (a .out .now) (start .pre)
+    (simp (told .b2 .given .1) at (built .build .ensures)) (search needs) (search needs) (search needs))
     (λ c. search needs) (λ c. search needs) (λ c. search needs)
-    (λ c. let a = c .before .before .before .before .before .before .before .before .before .before .before .before .before .before .before .before .before .before .before .args in
-    was-refused (a .list .now) (a .positions .now) (a .normals .now) (a .classes .now) (a .out .now) (c .before .before .before .before .before .before .before .before .before .before .before .before .before .before .before .before .before .before .before .pre) (simp (c .before .before .b .given .1) at (c .before .before .before .before .before .before .before .before .before .before .build .ensures)) (c .refusal .ensures))
+    (λ c. let told = c .before .before in
+    let built = told .before .before .before .before .before .before .before .before in
+    let start = built .before .before .before .before .before .before .before .before .before in
+    let a = start .args in
+    was-refused (a .list .now) (a .positions .now) (a .normals .now) (a .classes .now) (a .out .now) (start .pre)
+    (simp (told .b .given .1) at (built .build .ensures)) (c .refusal .ensures))
     (λ c. search needs) (λ c. search needs) (λ c. search needs) (λ c. search needs)
-    (λ c. let a = c .before .before .before .before .before .before .before .before .before .before .before .before .before .before .before .before .before .before .before .before .before .before .before .before .before .args in
-    was-written (a .list .now) (a .positions .now) (a .normals .now) (a .classes .now) (a .out .now) (c .before .before .before .before .before .before .before .before .before .before .before .before .before .before .before .before .before .before .before .before .before .before .before .before .before .pre) (simp (c .before .before .before .before .before .before .before .before .b2 .given .1) at (c .before .before .before .before .before .before .before .before .before .before .before .before .before .before .before .before .build .ensures)) (c .before .before .leave-loop .ensures)))
+    (λ c. let left = c .before .before in
+    let told = left .before .before .before .before .before .before in
+    let built = told .before .before .before .before .before .before .before .before in
+    let start = built .before .before .before .before .before .before .before .before .before in
+    let a = start .args in
+    was-written (a .list .now) (a .positions .now) (a .normals .now) (a .classes .now) (a .out .now) (start .pre)
+    (simp (told .b2 .given .1) at (built .build .ensures)) (left .leave-loop .ensures)))

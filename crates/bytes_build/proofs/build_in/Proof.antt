@@ -1,3 +1,4 @@
+-- The list's floats are read into the work array: what is built of them is built of the list in bytes.
 use Rattle.bytes_build.proofs.Builds.{read-list}
 use borrow.Author.Needs.{needs}
 use Rattle.bytes_build.proofs.build_in.Statement.{statement}
@@ -7,6 +8,9 @@ pub build-in-spec : {M : Type 1} → statement M
 build-in-spec =
     tie.close
     (tie.spec
-    (λ c κs. search needs) (λ c κs. search needs) (λ c. search needs) (λ c. search needs) (λ c. search needs) (λ c. search needs) (λ c. search needs)
-    (λ c. let a = c .before .before .before .before .before .before .before .before .before .before .before .before .before .before .before .before .before .before .before .before .before .before .before .before .args in
-    read-list (a .list .now) (a .out .now) _ (c .before .before .before .before .before .before .before .before .before .before .before .before .before .before .before .before .read-floats .ensures) (c .before .before .before .before .before .before .before .before .before .before .before .before .before .before .before .before .before .before .before .before .before .before .before .before .pre .1) (c .before .before .before .before .before .before .before .before .build-from .ensures)))
+    (λ c κs. search needs) (λ c κs. search needs) (λ c. search needs) (λ c. search needs) (λ c. search needs)
+    (λ c. search needs) (λ c. search needs)
+    (λ c. let built = c .before .before .before .before .before .before .before .before in
+    let read = built .before .before .before .before .before .before .before .before in
+    let start = read .before .before .before .before .before .before .before .before in
+    read-list (start .args .list .now) (start .args .out .now) _ (read .read-floats .ensures) (start .pre .1) (built .build-from .ensures)))

@@ -1,3 +1,4 @@
+-- A refusal leaves the header's bytes as they are, a loop writes its header there.
 use native.Mathlib.Omega.{arith}
 use borrow.Author.Needs.{needs}
 use Rattle.bytes_build.proofs.leave_header.Statement.{statement}
@@ -8,7 +9,9 @@ leave-header-spec =
     tie.close
     (tie.spec
     (λ c. search needs) (λ c κs. search needs) (λ c. search needs) (λ c κs. search needs)
-    (λ c. let h = simp (c .before .before .before .before .before .before .b2 .given .1) at (c .before .before .before .before .before .before .before .before .before .pre .0) in omega (arith, h))
+    (λ c. let told = c .before .before .before .before .before .before in
+    let counted = simp (told .b2 .given .1) at (told .before .before .before .pre .0) in
+    omega (arith, counted))
     (λ c. simp (c .refusal .ensures, c .before .before .b .given .1))
     (λ c. search needs)
-    (λ c. simp (c .before .before .before .before .before .before .b2 .given .1, c .before .before .before .put-header .ensures)))
+    (λ c. let put = c .before .before .before in simp (put .before .before .before .b2 .given .1, put .put-header .ensures)))

@@ -1,4 +1,5 @@
-use Rattle.bytes_check.proofs.Lists.{list-copied}
+-- Positions and numbers are read into the work arrays, the classes stand where they are: the answer of the parts is the loop's and the list's.
+use Rattle.bytes_loop.proofs.Parts.{classes-read}
 use borrow.Author.Needs.{needs}
 use Rattle.bytes_check.proofs.accepts_in.Statement.{statement}
 use Rattle.bytes_check.proofs.accepts_in.Tie as tie
@@ -7,11 +8,12 @@ pub accepts-in-spec : {M : Type 1} → statement M
 accepts-in-spec =
     tie.close
     (tie.spec
-    (λ c κs. search needs) (λ c. search needs) (λ c. search needs) (λ c κs. search needs) (λ c κs. search needs)
-    (λ c κs. search needs) (λ c. search needs) (λ c. search needs) (λ c. search needs) (λ c κs. search needs)
-    (λ c κs. search needs) (λ c. search needs) (λ c. search needs)
+    (λ c κs. search needs) (λ c κs. search needs) (λ c κs. search needs) (λ c κs. search needs) (λ c. search needs)
+    (λ c. search needs) (λ c. search needs) (λ c κs. search needs) (λ c κs. search needs) (λ c. search needs) (λ c. search needs)
     (λ c. let header = c .before .before .before .before .before in
     let numbers = header .before .before .before in
-    let floats = numbers .before .before .before .before in
-    let count = floats .before .before in
-    list-copied _ _ _ (count .count-at .ensures .0) (header .header-at .ensures) (floats .read-floats .ensures) (count .before .before .before .before .before .pre .0 .for-positions) (numbers .read-numbers .ensures) (c .before .accepts .ensures) (c .answered .ensures)))
+    let positions = numbers .before .before .before .before in
+    let from = positions .before .before in
+    let start = from .before .before .before .before .before in
+    simp (c .before .accepts .ensures, header .header-at .ensures, positions .read-positions .ensures, classes-read (start .args .s .now) (from .classes-from .ensures), numbers .read-numbers .ensures)
+    at (c .answered .ensures)))

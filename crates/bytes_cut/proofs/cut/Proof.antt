@@ -1,3 +1,4 @@
+-- A loop that cannot be copied is refused as its cutting is; else its positions are copied into a work array of their size.
 use native.Mathlib.Omega.{arith}
 use mathlib.Core.Path.{sym}
 use Rattle.numbers.specs.F64 as F
@@ -16,9 +17,17 @@ cut-spec =
     (λ c. early _ _ (c .before .before .copy-fault .ensures) (c .before .if1 .taken) (c .refusal .ensures))
     (λ c κs. omega (arith, copies _ (c .before .copy-fault .ensures) (c .if1 .left) .size))
     (λ c. search needs)
-    (λ c. omega (arith, small _ (c .before .before .copy-fault .ensures) (c .before .if1 .left) (c .count-at .ensures .0)))
-    (λ c. sym (first-of 1536 F.zero (omega (arith, small _ (c .before .before .before .copy-fault .ensures) (c .before .before .if1 .left) (c .before .count-at .ensures .0)))))
-    (λ c κs. let m = small _ (c .before .before .before .before .copy-fault .ensures) (c .before .before .before .if1 .left) (c .before .before .count-at .ensures .0) in
-    array _ (c .before .before .before .before .copy-fault .ensures) (c .before .before .before .if1 .left) (c .before .before .count-at .ensures .0) (first-of 1536 F.zero (omega arith)))
+    (λ c. let fine = c .before in
+    omega (arith, small _ (fine .before .copy-fault .ensures) (fine .if1 .left) (c .count-at .ensures .0)))
+    (λ c. let count = c .before in
+    let fine = count .before in
+    sym (first-of 1536 F.zero (omega (arith, small _ (fine .before .copy-fault .ensures) (fine .if1 .left) (count .count-at .ensures .0)))))
+    (λ c κs. let count = c .before .before in
+    let fine = count .before in
+    let fault = fine .before .copy-fault .ensures in
+    let few = small _ fault (fine .if1 .left) (count .count-at .ensures .0) in
+    array _ fault (fine .if1 .left) (count .count-at .ensures .0) (first-of 1536 F.zero (omega arith)))
     (λ c. search needs)
-    (λ c. late _ (c .before .before .before .before .before .before .before .before .copy-fault .ensures) (c .before .before .before .before .before .before .before .if1 .left) _ (c .before .before .before .cut-in .ensures)))
+    (λ c. let copied = c .before .before .before in
+    let fine = copied .before .before .before .before in
+    late _ (fine .before .copy-fault .ensures) (fine .if1 .left) _ (copied .cut-in .ensures)))

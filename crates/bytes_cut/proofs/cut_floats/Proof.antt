@@ -1,3 +1,4 @@
+-- A header that is refused is the answer; else the header is read, and the number is the one that the cutting answers.
 use native.Mathlib.Omega.{arith}
 use mathlib.Core.Path.{sym, _∙_}
 use Rattle.bytes_loop.proofs.Faults.{header-size}
@@ -16,4 +17,7 @@ cut-floats-spec =
     (λ c κs. search needs)
     (λ c κs. counted _ _ _ _ (c .before .before .triangulate .ensures))
     (λ c. search needs)
-    (λ c. numbered _ _ _ _ (c .before .before .before .before .before .before .before .header-fault .ensures) (c .before .before .before .before .before .before .if1 .left) (c .before .before .before .before .before .header-at .ensures) (c .before .before .before .triangulate .ensures) (c .number .ensures)))
+    (λ c. let cut = c .before .before .before in
+    let header = cut .before .before in
+    let fine = header .before in
+    numbered _ _ _ _ (fine .before .header-fault .ensures) (fine .if1 .left) (header .header-at .ensures) (cut .triangulate .ensures) (c .number .ensures)))

@@ -1,3 +1,4 @@
+-- Each field of the header is what its reader answers.
 use borrow.Author.Needs.{needs}
 use Rattle.bytes_loop.proofs.header_at.Statement.{statement}
 use Rattle.bytes_loop.proofs.header_at.Tie as tie
@@ -8,4 +9,9 @@ header-at-spec =
     (tie.spec
     (λ c κs. search needs) (λ c. search needs) (λ c κs. search needs) (λ c κs. search needs)
     (λ c κs. search needs) (λ c. search needs) (λ c κs. search needs) (λ c. search needs) (λ c κs. search needs)
-    (λ c. simp (c .has-mark2 .ensures, c .before .before .has-mark .ensures, c .before .before .before .before .insides-at .ensures, c .before .before .before .before .before .cap-at .ensures, c .before .before .before .before .before .before .state-of .ensures, c .before .before .before .before .before .before .before .before .count-at .ensures .0)))
+    (λ c. let reversed = c .before .before in
+    let insides = reversed .before .before in
+    let cap = insides .before in
+    let state = cap .before in
+    let count = state .before .before in
+    simp (c .has-mark2 .ensures, reversed .has-mark .ensures, insides .insides-at .ensures, cap .cap-at .ensures, state .state-of .ensures, count .count-at .ensures .0)))

@@ -1,6 +1,7 @@
+-- A vector and a float stored one after the other are the cap.
 use native.Mathlib.Omega.{arith}
 use Rattle.wire.specs.Wire.{floatBytes, vecBytes}
-use Rattle.bytes_loop.proofs.Lays.{two, width}
+use Rattle.wire.proofs.Lays.{two, width}
 use borrow.Author.Needs.{needs}
 use Rattle.bytes_loop.proofs.put_cap.Statement.{statement}
 use Rattle.bytes_loop.proofs.put_cap.Tie as tie
@@ -10,7 +11,8 @@ put-cap-spec =
     tie.close
     (tie.spec
     (λ c κs. search needs) (λ c κs. search needs) (λ c. search needs)
-    (λ c. let p = c .before .before in
-    let q = p .before .before .before .before in
-    let a = q .before .before .before .args in
-    two (a .out .now) (vecBytes (a .c .centre)) (floatBytes (a .c .radius .0)) 8 32 (q .put-vec .ensures) (p .put-float .ensures) (omega (arith, width (a .c .centre)))))
+    (λ c. let radius = c .before .before in
+    let centre = radius .before .before .before .before in
+    let a = centre .before .before .before .args in
+    two (a .out .now) (vecBytes (a .c .centre)) (floatBytes (a .c .radius .0)) 8 32 (centre .put-vec .ensures) (radius .put-float .ensures)
+    (omega (arith, width (a .c .centre)))))

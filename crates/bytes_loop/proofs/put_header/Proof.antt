@@ -1,3 +1,4 @@
+-- Front, cap and insides are each stored right after the one before: together they are the header.
 use native.Mathlib.Omega.{arith}
 use mathlib.Core.Path.{refl}
 use Rattle.wire.proofs.Bytes.{three, eight}
@@ -14,8 +15,11 @@ put-header-spec =
     (tie.spec
     (λ c κs. search needs) (λ c κs. search needs) (λ c κs. search needs) (λ c κs. search needs)
     (λ c κs. search needs) (λ c. search needs)
-    (λ c. let r = c .before .before in
-    let q = r .before .before .before .before in
-    let p = q .before .before .before .before in
-    let a = p .before .before .before .before .before .args in
-    three (a .out .now) (frontBytes (a .h .count) (stateCode (a .h .state)) (marksOf (a .h))) (capBytes (a .h .cap)) (insidesBytes (a .h .insides)) 0 8 40 (simp (p .before .marks-of .ensures, p .before .before .state-code .ensures) at (p .put-front .ensures)) (q .put-cap .ensures) (r .put-insides .ensures) refl (simp (length-append, eight)) (omega arith)))
+    (λ c. let insides = c .before .before in
+    let cap = insides .before .before .before .before in
+    let front = cap .before .before .before .before in
+    let a = front .before .before .before .before .before .args in
+    let bytes = frontBytes (a .h .count) (stateCode (a .h .state)) (marksOf (a .h)) in
+    three (a .out .now) bytes (capBytes (a .h .cap)) (insidesBytes (a .h .insides)) 0 8 40
+    (simp (front .before .marks-of .ensures, front .before .before .state-code .ensures) at (front .put-front .ensures))
+    (cap .put-cap .ensures) (insides .put-insides .ensures) refl (simp (length-append, eight)) (omega arith)))

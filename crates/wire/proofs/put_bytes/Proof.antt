@@ -1,4 +1,5 @@
-use Rattle.bytes_loop.proofs.Lays.{Lay, lay, lay-on, copy-laid}
+-- Each turn lays one byte after those laid before.
+use Rattle.wire.proofs.Lays.{Lay, lay, lay-on, copy-laid}
 use lib.ListN.{length}
 use mathlib.Core.Path.{refl}
 use Prim.Native.Nat.{_-_}
@@ -6,8 +7,8 @@ use native.Mathlib.Omega.{arith}
 use Rattle.laws.proofs.Copies.{one}
 use native.Mathlib.Nat.{one-mul}
 use borrow.Author.Needs.{needs}
-use Rattle.bytes_loop.proofs.put_bytes.Statement.{statement}
-use Rattle.bytes_loop.proofs.put_bytes.Tie as tie
+use Rattle.wire.proofs.put_bytes.Statement.{statement}
+use Rattle.wire.proofs.put_bytes.Tie as tie
 
 abbrev Inv-loop : tie.InvT-loop
 Inv-loop out₀ at from i₀ i-end out i = Lay 1 at (one 0 from) (length from) i out₀ out

@@ -1,12 +1,13 @@
+-- Each turn puts one number more: in the end the array is filled with the numbers.
 use Rattle.laws.proofs.Blocks.{Fill, fill, fill-on-one, fill-all-one}
 use lib.ListN.{length}
 use mathlib.Core.Path.{refl}
 use Prim.Native.Nat.{_-_}
 use native.Mathlib.Omega.{arith}
-use Rattle.bytes_loop.specs.Layout.{numberBlock, numbersAt}
+use Rattle.wire.specs.Wire.{numberBlock, numbersAt}
 use borrow.Author.Needs.{needs}
-use Rattle.bytes_loop.proofs.read_numbers.Statement.{statement}
-use Rattle.bytes_loop.proofs.read_numbers.Tie as tie
+use Rattle.wire.proofs.read_numbers.Statement.{statement}
+use Rattle.wire.proofs.read_numbers.Tie as tie
 
 abbrev Inv-loop : tie.InvT-loop
 Inv-loop s out₀ i₀ i-end out i = Fill 1 (numberBlock s) (length out₀) i out₀ out

@@ -1,13 +1,14 @@
+-- Each turn lays one number's two bytes after those laid before.
 use native.Mathlib.Nat.{zero-add}
-use Rattle.bytes_loop.proofs.Lays.{Lay, lay, lay-on, lay-end}
+use Rattle.wire.proofs.Lays.{Lay, lay, lay-on, lay-end}
 use lib.ListN.{length}
 use mathlib.Core.Path.{refl}
 use Prim.Native.Nat.{_-_}
 use native.Mathlib.Omega.{arith}
-use Rattle.bytes_loop.specs.Layout.{numberBytesAt, numbersBytes}
+use Rattle.wire.specs.Wire.{numberBytesAt, numbersBytes}
 use borrow.Author.Needs.{needs}
-use Rattle.bytes_loop.proofs.put_numbers.Statement.{statement}
-use Rattle.bytes_loop.proofs.put_numbers.Tie as tie
+use Rattle.wire.proofs.put_numbers.Statement.{statement}
+use Rattle.wire.proofs.put_numbers.Tie as tie
 
 abbrev Inv-loop : tie.InvT-loop
 Inv-loop out₀ from i₀ i-end out i = Lay 2 0 (numberBytesAt from) (length from) i out₀ out
@@ -29,6 +30,8 @@ put-numbers-spec =
     (λ c κs. search needs)
     (λ c. search needs)
     (λ c. search needs)
-    (λ c. lay-on (c .before .before .before .before .before .before .before .loop .inv) (λ j. refl) (rw zero-add (simp (c .before .before .before .wide .ensures) at (c .before .before .put-u16 .ensures))) (omega arith))
+    (λ c. let put = c .before .before in
+    let bytes = simp (put .before .wide-number .ensures) at (put .put-u16 .ensures) in
+    lay-on (put .before .before .before .before .before .loop .inv) (λ j. refl) (rw zero-add bytes) (omega arith))
     (λ c. search needs)
     (λ c. lay-end (c .before .loop .inv) (omega arith)))

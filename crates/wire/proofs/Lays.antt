@@ -10,11 +10,9 @@ use lib.Seq.{sets, length-sets}
 use Rattle.laws.specs.Loop.{flat}
 use Rattle.laws.proofs.Copies.{one, copied, length-flat}
 use lib.Ieee.{Float}
-use Rattle.loop_header.specs.declared.Header.{Header}
-use Rattle.bytes_loop.specs.Layout.{floatBlock, floatsAt, floatBytesAt, floatsBytes, headerBytes}
 use Rattle.vec3.specs.declared.Vec3.{Vec3}
-use Rattle.wire.specs.Wire.{vecBytes}
+use Rattle.wire.specs.Wire.{floatBlock, floatsAt, numberBlock, numbersAt, vecBytes, floatBytesAt, floatsBytes}
 use Rattle.wire.proofs.Bytes.{sets-sets, eight}
 
 snoc : {A : Type 0} (f : ℕ → List A) (k i : ℕ) → flat f (suc k) i ≡ flat f k i ++ f (i + k)
 unfolding flat
@@ -65,11 +63,11 @@ pub floats-width : (l : List Float) → length (floatsBytes l) ≡ 8 * length l
 unfolding floatsBytes
 floats-width l = span (floatBytesAt l) (λ j. eight _) (length l) 0
 
-pub header-width : (h : Header) → length (headerBytes h) ≡ 88
-unfolding headerBytes
-header-width h = simp (length-append, eight)
-
--- floats that were read
+-- floats and numbers that were read
 pub floats-length : (s : List ℕ) (at n : ℕ) → length (floatsAt s at n) ≡ n
 unfolding floatsAt
 floats-length s at n = length-flat (floatBlock s at) (λ j. refl) n 0
+
+pub numbers-length : (s : List ℕ) (n : ℕ) → length (numbersAt s n) ≡ n
+unfolding numbersAt
+numbers-length s n = length-flat (numberBlock s) (λ j. refl) n 0

@@ -1,12 +1,13 @@
-use Rattle.bytes_loop.proofs.Lays.{Lay, lay, lay-on, lay-end}
+-- Each turn lays one float's bytes after those laid before.
+use Rattle.wire.proofs.Lays.{Lay, lay, lay-on, lay-end}
 use lib.ListN.{length}
 use Prim.Native.Nat.{_-_}
 use native.Mathlib.Omega.{arith}
 use Rattle.wire.proofs.Bytes.{eight}
-use Rattle.bytes_loop.specs.Layout.{floatBytesAt, floatsBytes}
+use Rattle.wire.specs.Wire.{floatBytesAt, floatsBytes}
 use borrow.Author.Needs.{needs}
-use Rattle.bytes_loop.proofs.put_floats.Statement.{statement}
-use Rattle.bytes_loop.proofs.put_floats.Tie as tie
+use Rattle.wire.proofs.put_floats.Statement.{statement}
+use Rattle.wire.proofs.put_floats.Tie as tie
 
 abbrev Inv-loop : tie.InvT-loop
 Inv-loop out₀ at from i₀ i-end out i = Lay 8 at (floatBytesAt from) (length from) i out₀ out
@@ -28,6 +29,7 @@ put-floats-spec =
     (λ c κs. search needs)
     (λ c. search needs)
     (λ c. search needs)
-    (λ c. lay-on (c .before .before .before .before .before .before .loop .inv) (λ j. eight _) (c .before .before .put-float .ensures) (omega arith))
+    (λ c. let put = c .before .before in
+    lay-on (put .before .before .before .before .loop .inv) (λ j. eight _) (put .put-float .ensures) (omega arith))
     (λ c. search needs)
     (λ c. lay-end (c .before .loop .inv) (omega arith)))

@@ -1,12 +1,13 @@
+-- Each turn puts one float more: in the end the array is filled with the floats from the offset on.
 use Rattle.laws.proofs.Blocks.{Fill, fill, fill-on-one, fill-all-one}
 use lib.ListN.{length}
 use mathlib.Core.Path.{refl}
 use Prim.Native.Nat.{_-_}
 use native.Mathlib.Omega.{arith}
-use Rattle.bytes_loop.specs.Layout.{floatBlock, floatsAt}
+use Rattle.wire.specs.Wire.{floatBlock, floatsAt}
 use borrow.Author.Needs.{needs}
-use Rattle.bytes_loop.proofs.read_floats.Statement.{statement}
-use Rattle.bytes_loop.proofs.read_floats.Tie as tie
+use Rattle.wire.proofs.read_floats.Statement.{statement}
+use Rattle.wire.proofs.read_floats.Tie as tie
 
 abbrev Inv-loop : tie.InvT-loop
 Inv-loop s at out₀ i₀ i-end out i = Fill 1 (floatBlock s at) (length out₀) i out₀ out

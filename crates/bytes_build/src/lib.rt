@@ -1,4 +1,4 @@
-// The desk's functions over a loop in bytes, and over floats with a header in bytes. A number is answered: a refusal is 65,536 plus its own.
+// Building a loop out of positions in bytes, into bytes; and out of floats, with its header alone in bytes. A number is answered: a refusal is 65,536 plus its own.
 ghost use mathlib.Core.Path.{_≡_};
 ghost use Prim.Native.Nat.{_*_, _≤_};
 ghost use lib.ListN.{length};

@@ -16,7 +16,7 @@ use Rattle.loop_header.specs.declared.Header.{Header}
 use Rattle.loop_header.specs.Loops.{countFits, threesOf, shapeFault, ringFault, cutFault, checkFault, loopFault}
 use Rattle.loop_ask.specs.Answers.{Told, refused, judged}
 use Rattle.loop_ask.specs.Questions.{queryFault, placeAnswer, vertexAnswer, onEdgeAnswer, convexAnswer, simpleAnswer}
-use Rattle.wire.specs.Wire.{vecOf}
+use Rattle.wire.specs.Wire.{vecSize, vecOf}
 use Rattle.bytes_loop.specs.Outcome.{refusalOf}
 use Rattle.bytes_loop.specs.Layout.{countAt, stateByte, stateOf, headerAt, positionsAt, normalsAt, classesAt, frameFault, largeFault, manyFault, copyFault, Arrays}
 use Rattle.bytes_loop.proofs.Faults.{wrong-size, right-size, frame-size, Copyable, copyable}
@@ -92,17 +92,17 @@ module _ (h : Header) (ps ns : List Float) (cs : List ℕ) where
     unfolding toldBy
     no-position v e t = rw (← n, e, any-position q (vecOf p 0) v (sym n ∙ e)) t
 
-    pub wrong-position : b ≡ true → (length p ≡ 24 → ⊥) → r ≡ refusalOf (first (loopFault h ps ns cs) 1) → r ≡ numberOf (toldBy q h ps ns cs p)
+    pub wrong-position : b ≡ true → (length p ≡ vecSize → ⊥) → r ≡ refusalOf (first (loopFault h ps ns cs) 1) → r ≡ numberOf (toldBy q h ps ns cs p)
     unfolding toldBy
-    wrong-position e z t = rw (← n, e, wrong-size (length p) 24 z, t) (one (loopFault h ps ns cs) (toldAt q h ps ns cs (vecOf p 0)))
+    wrong-position e z t = rw (← n, e, wrong-size (length p) vecSize z, t) (one (loopFault h ps ns cs) (toldAt q h ps ns cs (vecOf p 0)))
       where
         one : (f : ℕ) (x : Told) → refusalOf (first f 1) ≡ numberOf (judged (first f 1) x)
         one zero x = refl
         one (suc k) x = refl
 
-    pub at-position : b ≡ true → length p ≡ 24 → r ≡ numberOf (toldAt q h ps ns cs (vecOf p 0)) → r ≡ numberOf (toldBy q h ps ns cs p)
+    pub at-position : b ≡ true → length p ≡ vecSize → r ≡ numberOf (toldAt q h ps ns cs (vecOf p 0)) → r ≡ numberOf (toldBy q h ps ns cs p)
     unfolding toldBy
-    at-position e z t = rw (← n, e, right-size (length p) 24 z, judged-at q (vecOf p 0) (loopFault h ps ns cs) refl) t
+    at-position e z t = rw (← n, e, right-size (length p) vecSize z, judged-at q (vecOf p 0) (loopFault h ps ns cs) refl) t
 
 -- ---- a loop in bytes
 module _ (s : List ℕ) where

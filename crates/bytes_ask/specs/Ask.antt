@@ -11,7 +11,7 @@ use Rattle.loop_header.specs.declared.Header.{Header}
 use Rattle.loop_header.specs.Loops.{loopFault}
 use Rattle.loop_ask.specs.Answers.{Told, refused, answer, judged}
 use Rattle.loop_ask.specs.Questions.{placeAnswer, vertexAnswer, onEdgeAnswer, convexAnswer, simpleAnswer}
-use Rattle.wire.specs.Wire.{vecOf}
+use Rattle.wire.specs.Wire.{vecSize, vecOf}
 use Rattle.bytes_loop.specs.Outcome.{refusalOf}
 use Rattle.bytes_loop.specs.Layout.{headerAt, positionsAt, normalsAt, classesAt, sizeFault, headerFault, frameFault}
 use Rattle.bytes_ask.specs.declared.Question.{Question}
@@ -37,9 +37,9 @@ needsPosition OnEdge = true
 needsPosition Convex = false
 needsPosition Simple = false
 
--- the loop's refusals, and then that of a position that is not 24 bytes
+-- the loop's refusals, and then that of a position of another length
 abbrev pub lengthFault : Bool → ℕ → List ℕ → ℕ
-lengthFault true fault p = first fault (sizeFault (length p) 24)
+lengthFault true fault p = first fault (sizeFault (length p) vecSize)
 lengthFault false fault p = 0
 
 -- of a loop in its parts and a position in bytes

@@ -87,7 +87,7 @@ fn answer(
     if !needs_position(q) {
         return query(q, h, positions, normals, classes, Vec3::ZERO);
     }
-    if position.len() != 24 {
+    if position.len() != wire::VECTOR {
         return no_query(h, positions, normals, classes);
     }
     query(q, h, positions, normals, classes, wire::vec_at(position, 0))

@@ -18,7 +18,7 @@ use Rattle.loop_header.specs.declared.Header.{Header}
 use Rattle.loop_build.specs.Build as B
 use Rattle.loop_build.proofs.Rooms.{list-fine}
 use Rattle.loop_build.proofs.Rooms as R
-use Rattle.wire.specs.Wire.{floatsAt}
+use Rattle.wire.specs.Wire.{vecSize, floatsAt}
 use Rattle.wire.proofs.Lays.{floats-length}
 use Rattle.bytes_loop.specs.Outcome.{Outcome, outcome, refusalOf}
 use Rattle.bytes_loop.specs.Layout.{headerSize, cornersFor, Parts}
@@ -154,16 +154,16 @@ module _ (h : Header) (ps ns : List Float) (cs : List ℕ) {out : ℕ} (f : Fitt
   }
 
 -- ---- lists in bytes
-pub unread : (s : List ℕ) (out : List ℕ) {r : ℕ} → (length s % 24 ≡ 0 → ⊥) → r ≡ refusalOf 1 → outcome r out ≡ buildOutcome s out
+pub unread : (s : List ℕ) (out : List ℕ) {r : ℕ} → (length s % vecSize ≡ 0 → ⊥) → r ≡ refusalOf 1 → outcome r out ≡ buildOutcome s out
 unfolding buildOutcome
 unread s out h e = rw (ne-eqb _ _ h, e)
 
-module _ (s out : List ℕ) (h : length s % 24 ≡ 0) where
+module _ (s out : List ℕ) (h : length s % vecSize ≡ 0) where
   pub in-bytes : {x : Outcome ℕ} → x ≡ builtOutcome (listAt s) out → x ≡ buildOutcome s out
   unfolding buildOutcome
   in-bytes q = rw (eq-eqb _ _ h) q
 
-  too-many : 512 < length s / 24 → B.listFault (listAt s) ≡ 2
+  too-many : 512 < length s / vecSize → B.listFault (listAt s) ≡ 2
   unfolding B.listFault
   too-many g =
       let e = floats-length s 0 (length s / 8) in
@@ -171,7 +171,7 @@ module _ (s out : List ℕ) (h : length s % 24 ≡ 0) where
       let b : 512 < length s / 8 / 3 = omega arith in
       rw (e, eq-eqb _ _ a, lt-ltb _ _ b)
 
-  pub too-long : {r : ℕ} → 512 < length s / 24 → r ≡ refusalOf 2 → outcome r out ≡ buildOutcome s out
+  pub too-long : {r : ℕ} → 512 < length s / vecSize → r ≡ refusalOf 2 → outcome r out ≡ buildOutcome s out
   unfolding builtOutcome
   too-long g e = in-bytes (rw (too-many g, e))
 
@@ -184,7 +184,7 @@ read-list s out n e h q =
 pub roomy : {n : ℕ} (size : ℕ) {p q r : ℕ} → n ≡ cornersFor size → p ≡ 3 * n → q ≡ 3 * n → r ≡ n → Roomy size p q r
 roomy size e a b d = record { for-positions = rw (← e) a; for-normals = rw (← e) b; for-classes = d ∙ e }
 
-pub given-size : (s : List ℕ) (p : ℕ) → p ≡ 3 * (length s / 24) → length s % 24 ≡ 0 → 8 * p ≡ length s
+pub given-size : (s : List ℕ) (p : ℕ) → p ≡ 3 * (length s / vecSize) → length s % vecSize ≡ 0 → 8 * p ≡ length s
 given-size s p e h = omega arith
 
 -- ---- with the header alone in bytes

@@ -14,7 +14,7 @@ use Rattle.loop_header.specs.declared.Header.{Header}
 use Rattle.loop_header.specs.Loops.{emptyHeader}
 use Rattle.loop_build.specs.Build.{listFault, openedCount, Made, made}
 use Rattle.loop_build.specs.Build as B
-use Rattle.wire.specs.Wire.{floatsAt}
+use Rattle.wire.specs.Wire.{vecSize, floatsAt}
 use Rattle.bytes_loop.specs.Outcome.{Outcome, outcome, refusalOf, outcomeBy}
 use Rattle.bytes_loop.specs.Layout.{headerSize, loopSize, headerBytes, loopBytes, cornersFor}
 
@@ -43,12 +43,12 @@ builtOutcome l out =
     outcomeBy (first (listFault l) (needFault (length out) (openedCount l))) out
     (outcome (madeOf l .header .count) (sets out 0 (madeBytes (madeOf l))))
 
--- of a list in bytes, 24 a position
+-- of a list in bytes
 abbrev pub listAt : List ℕ → List Float
 listAt s = floatsAt s 0 (length s / 8)
 
 unfoldable pub buildOutcome : List ℕ → List ℕ → Outcome ℕ
-buildOutcome s out = outcomeBy (cond (eqb (length s % 24) 0) 0 1) out (builtOutcome (listAt s) out)
+buildOutcome s out = outcomeBy (cond (eqb (length s % vecSize) 0) 0 1) out (builtOutcome (listAt s) out)
 
 -- with the header alone in bytes: what building leaves in the three slices, and its header
 pub record FloatsOutcome : Type 0 where

@@ -62,10 +62,10 @@ fn build_in(
 pub fn build(list: &[u8], out: &mut [u8]) -> u32
     ensures { λ r. ⌜ outcome r (now (out .exit)) ≡ Bu.buildOutcome (now (list .entry)) (now (out .entry)) ⌝ }
 {
-    if list.len() % 24 != 0 {
+    if list.len() % wire::VECTOR != 0 {
         return refusal(1);
     }
-    let m = list.len() / 24;
+    let m = list.len() / wire::VECTOR;
     if m > 512 {
         return refusal(2);
     }

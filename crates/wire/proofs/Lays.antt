@@ -11,7 +11,7 @@ use Rattle.laws.specs.Loop.{flat}
 use Rattle.laws.proofs.Copies.{one, copied, length-flat}
 use lib.Ieee.{Float}
 use Rattle.vec3.specs.declared.Vec3.{Vec3}
-use Rattle.wire.specs.Wire.{floatBlock, floatsAt, numberBlock, numbersAt, vecBytes, floatBytesAt, floatsBytes}
+use Rattle.wire.specs.Wire.{vecSize, floatBlock, floatsAt, numberBlock, numbersAt, vecBytes, floatBytesAt, floatsBytes}
 use Rattle.wire.proofs.Bytes.{sets-sets, eight}
 
 snoc : {A : Type 0} (f : ℕ → List A) (k i : ℕ) → flat f (suc k) i ≡ flat f k i ++ f (i + k)
@@ -55,8 +55,7 @@ copy-laid z l t h = rw (copied z l) at (lay-end t h)
 pub two : {A : Type 0} {x y : List A} (l a b : List A) (i k : ℕ) → x ≡ sets l i a → y ≡ sets x k b → i + length a ≡ k → y ≡ sets l i (a ++ b)
 two l a b i k p q e = rw (q, p) (sets-sets l a b i k e)
 
--- 24 bytes a vector
-pub width : (v : Vec3) → length (vecBytes v) ≡ 24
+pub width : (v : Vec3) → length (vecBytes v) ≡ vecSize
 width v = simp (length-append, eight)
 
 pub floats-width : (l : List Float) → length (floatsBytes l) ≡ 8 * length l

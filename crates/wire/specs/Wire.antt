@@ -7,6 +7,10 @@ use Rattle.laws.specs.Loop.{flat}
 use Rattle.vec3.specs.declared.Vec3.{Vec3}
 use Rattle.vec3.specs.Vec.{vec}
 
+-- the bytes of a vector
+abbrev pub vecSize : ℕ
+vecSize = 24
+
 -- the number at an offset
 abbrev pub u16Of : List ℕ → ℕ → ℕ
 u16Of s at = getD s at 0 + 256 * getD s (at + 1) 0

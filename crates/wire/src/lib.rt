@@ -4,8 +4,11 @@ ghost use Prim.Native.Nat.{_+_, _*_, _≤_, _<_};
 ghost use lib.ListN.{length};
 ghost use lib.Seq.{sets};
 ghost use lib.Ieee.{binary64, ofBits, toBits};
-ghost use Rattle.wire.specs.Wire.{u16Of, u32Of, u64Of, floatOf, vecOf, floatsAt, numbersAt, bytes2, bytes8, floatBytes, vecBytes, floatsBytes, numbersBytes};
+ghost use Rattle.wire.specs.Wire.{vecSize, u16Of, u32Of, u64Of, floatOf, vecOf, floatsAt, numbersAt, bytes2, bytes8, floatBytes, vecBytes, floatsBytes, numbersBytes};
 use vec3::Vec3;
+
+// How many bytes a vector has.
+pub const VECTOR: usize = 24;
 
 fn wide(b: u8) -> u64
     ensures { λ r. ⌜ (r ≡ b) × (r < 256) ⌝ }
@@ -67,7 +70,7 @@ pub fn float_at(s: &[u8], at: usize) -> f64
 
 // The position or normal at an offset, free of -0.0.
 pub fn vec_at(s: &[u8], at: usize) -> Vec3
-    requires { ⌜ at + 24 ≤ length (now s) ⌝ }
+    requires { ⌜ at + vecSize ≤ length (now s) ⌝ }
     ensures { λ r. ⌜ r ≡ vecOf (now (s .entry)) at ⌝ }
 {
     Vec3::new(float_at(s, at), float_at(s, at + 8), float_at(s, at + 16))
@@ -100,7 +103,7 @@ pub fn put_float(out: &mut [u8], at: usize, x: f64)
 }
 
 pub fn put_vec(out: &mut [u8], at: usize, v: Vec3)
-    requires { ⌜ at + 24 ≤ length (now out) ⌝ }
+    requires { ⌜ at + vecSize ≤ length (now out) ⌝ }
     ensures { λ _. ⌜ now (out .exit) ≡ sets (now (out .entry)) at (vecBytes v) ⌝ }
 {
     put_float(out, at, v.x);

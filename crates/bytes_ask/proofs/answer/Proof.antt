@@ -1,4 +1,4 @@
--- A question that needs no position is answered at once; else one of another length than 24 is refused after the loop, and any other is read.
+-- A question that needs no position is answered at once; else one of another length than a vector's is refused after the loop, and any other is read.
 use Rattle.vec3.specs.Vec.{origin}
 use borrow.Author.Tests.{not-true, not-false}
 use Rattle.bytes_ask.proofs.Asks.{no-position, wrong-position, at-position}

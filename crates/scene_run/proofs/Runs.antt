@@ -23,7 +23,7 @@ use Rattle.scene_steps.specs.Steps.{Step, wrote, step, reportStep, toldStep, Re
 use Rattle.scene_run.specs.Run.{textBy, linesFrom, starting, linesOf, lineOf, goesOn, Running, blankFloats, blankCodes, sceneText}
 use Rattle.scene_steps.proofs.Goods.{Onward, onward}
 
--- ---- the text of an report
+-- ---- the text of a report
 module _ (v w : Scene) (rest : Scene → List ℕ) where
   text-stop : (o : Report) → goesOn o ≡ false → textBy (reportStep o v) w rest ≡ lineText (lineOf o (w .records) (w .at))
   text-stop Report.End h = refl

@@ -49,7 +49,7 @@ linesOf s ps ns cs = linesFrom s (length s + 1) (starting ps ns cs)
 unfoldable pub sceneText : List ℕ → List ℕ
 sceneText s = cond (ltb 65536 (length s)) (refusedLine 10 0) (linesOf s blankFloats blankFloats blankCodes)
 
--- the line that an report prints, and whether the scene goes on after it
+-- the line that a report prints, and whether the scene goes on after it
 abbrev pub lineOf : Report → ℕ → ℕ → Line
 lineOf Report.End records at = Line.End records
 lineOf (Report.Bad f) records at = Line.Refused (faultNumber f) at

@@ -7,7 +7,7 @@ ghost use Rattle.scene_run.specs.Run as Sc;
 use scene_lines::Line;
 use scene_steps::Report;
 
-// The line of an report. Each fault is refusal 10 today.
+// The line of a report. Each fault is refusal 10 today.
 fn line_of(report: Report, records: usize, at: usize) -> Line
     ensures { λ r. ⌜ r ≡ Sc.lineOf report records at ⌝ }
 {

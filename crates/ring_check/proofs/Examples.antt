@@ -18,17 +18,17 @@ use Rattle.ring_check.specs.Accepted.{fitsAt, sameNumbers, accepts, acce
 abbrev pub none : Float
 none = ofBits binary64 0
 
-abbrev pub six : Float
-six = ofBits binary64 0x3fe3333333333333
+abbrev pub six-tenths : Float
+six-tenths = ofBits binary64 0x3fe3333333333333
 
-abbrev pub minus-six : Float
-minus-six = ofBits binary64 0xbfe3333333333333
+abbrev pub minus-six-tenths : Float
+minus-six-tenths = ofBits binary64 0xbfe3333333333333
 
-abbrev pub eight : Float
-eight = ofBits binary64 0x3fe999999999999a
+abbrev pub eight-tenths : Float
+eight-tenths = ofBits binary64 0x3fe999999999999a
 
 abbrev pub four : List Float
-four = none ∷ minus-six ∷ eight ∷ minus-six ∷ none ∷ eight ∷ none ∷ six ∷ eight ∷ six ∷ none ∷ eight ∷ []
+four = none ∷ minus-six-tenths ∷ eight-tenths ∷ minus-six-tenths ∷ none ∷ eight-tenths ∷ none ∷ six-tenths ∷ eight-tenths ∷ six-tenths ∷ none ∷ eight-tenths ∷ []
 
 abbrev pub convex : List ℕ
 convex = 0 ∷ 0 ∷ 0 ∷ 0 ∷ []

@@ -2,7 +2,6 @@
 ghost use mathlib.Core.Path.{_≡_};
 ghost use lib.ListN.{length};
 ghost use Rattle.scene_run.specs.Run.{sceneText};
-use libc::STDOUT_FILENO;
 
 // Room for the longest text. Its `ensures` gives the length alone, so that no proof looks at so many zeros.
 fn room() -> [u8; 196989]
@@ -17,6 +16,6 @@ pub fn print(input: &[u8]) -> usize
 {
     let mut out = room();
     let n = scene_run::run(input, &mut out);
-    io::write_all(STDOUT_FILENO, &out[..n]);
+    output::print(&out[..n], b"scene: standard output could not be written\n");
     n
 }

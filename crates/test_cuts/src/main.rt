@@ -5,7 +5,6 @@ ghost use Prim.Native.Nat.{_-_, _*_, _≤_};
 ghost use lib.ListN.{length};
 ghost use Rattle.ring_cut.specs.Cut.{Ring};
 ghost use Rattle.test_cuts.specs.Bytes.{Bytes};
-use libc::STDIN_FILENO;
 use libc::STDOUT_FILENO;
 use vec3::Insides;
 use vec3::Vec3;
@@ -105,7 +104,7 @@ fn answer_bytes(n: usize, body: &[u8])
 fn answer_in(n: usize, body: &mut [u8]) -> bool
     requires { ⌜ (3 ≤ n) × (n ≤ 512) × (length (now body) ≡ 25 * n) ⌝ }
 {
-    if io::read_full(STDIN_FILENO, body) < body.len() {
+    if !input::fill(body) {
         return false;
     }
     answer_bytes(n, body);
@@ -123,7 +122,7 @@ fn answer(n: usize) -> bool
 // Reads one ring and answers; false at the end, and at a count that no ring has.
 fn answer_one() -> bool {
     let mut head = [0u8; 2];
-    if io::read_full(STDIN_FILENO, &mut head) < 2 {
+    if !input::fill(&mut head) {
         return false;
     }
     let n = wire::u16_at(&head, 0) as usize;

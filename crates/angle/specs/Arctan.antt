@@ -87,7 +87,7 @@ sumOf y = pairs y (y ⊗ y) coefs
 unfoldable pub acute : Float → Float
 acute t = (t ⊘ (one ⊕ t ⊗ t)) ⊗ sumOf ((t ⊗ t) ⊘ (one ⊕ t ⊗ t))
 
--- the angle of (b, a) in the first quadrant; a NaN stays
+-- the angle of (b, a) in the first quadrant; a NaN stays, but for a b beside an a of 0
 unfoldable pub quadrant : Float → Float → Float
 quadrant a b =
     cond (lt a b) (acute (a ⊘ b))

@@ -1,6 +1,6 @@
 #!/usr/bin/env python3
 # Makes the scenes of the stored tests, crates/scene_tests/stdin: how many there are, then for each a title and the scene, both with their u32
-# length before them. What they must print, crates/scene_tests/stdout, is what oracle/model says of them, a plain Rust reading of document 01
+# length before them. What they must print, crates/scene_tests/stdout, is what oracle/model says of them, a plain Rust reading of docs/SCOPE.md
 # over the unchanged source:  samples/make.py && oracle/target/release/host expected crates/scene_tests/stdin >crates/scene_tests/stdout
 import math
 import os
@@ -67,7 +67,7 @@ assert len(LONGEST) == 65536
 
 scenes = [
     ('empty input', b''),
-    ("document 01's example", A + area(2, [X, Y, W]) + place(1, (0.48, 0.6, 0.64)) + place(1, (0.6, 0.0, 0.8)) + pair(1, 2)),
+    ('the worked example', A + area(2, [X, Y, W]) + place(1, (0.48, 0.6, 0.64)) + place(1, (0.6, 0.0, 0.8)) + pair(1, 2)),
     ('states and marks, and places in them', area(7, SQUARE) + area(8, []) + area(9, [X, Y]) + area(10, FULL) + area(11, [X] * 4)
      + area(12, EIGHT) + area(13, STAR) + area(65535, SQUARE[::-1] + [SQUARE[-1]])
      + join(place(n, p) for n in (7, 8, 10, 11, 12, 13, 65535) for p in (Z, W, unit(1, 0.1, 0.1)))),

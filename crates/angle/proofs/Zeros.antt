@@ -1,4 +1,4 @@
--- `atan2` at zeros, as IEEE 754 has it: document 01, "with the IEEE results at zeros". Assumes nothing.
+-- SCOPE 6: `atan2` at zeros is as IEEE 754 has it. Assumes nothing.
 use mathlib.Core.Path.{_≡_, refl, sym, ap, _∙_, subst}
 use mathlib.Core.Bool.{Bool, true, false, cond, _&&_}
 use Prim.Native.Nat.{ℕ, zero, suc, _*_, _<_}

@@ -1,4 +1,4 @@
--- The arctangent of two arguments, over the float operations. Document 01: "The port has its own, fixed by a definition over float operations". Definitions only.
+-- SCOPE 6: the arctangent of two arguments, our own, over the float operations. Definitions only.
 -- For 0 ≤ t ≤ 1 it is Euler's series: atan t = t / (1 + t²) * Σ cₖ yᵏ with y = t² / (1 + t²), cₖ = 2/3 * 4/5 * .. * 2k/(2k+1), summed to k = 48.
 use mathlib.Core.Bool.{Bool, cond, _||_}
 use mathlib.Core.List.{List, [], _∷_}
@@ -87,7 +87,7 @@ sumOf y = pairs y (y ⊗ y) coefs
 unfoldable pub acute : Float → Float
 acute t = (t ⊘ (one ⊕ t ⊗ t)) ⊗ sumOf ((t ⊗ t) ⊘ (one ⊕ t ⊗ t))
 
--- the angle of (b, a) in the first quadrant; a NaN stays
+-- the angle of (b, a) in the first quadrant; a NaN stays, but for a b beside an a of 0
 unfoldable pub quadrant : Float → Float → Float
 quadrant a b =
     cond (lt a b) (acute (a ⊘ b))

@@ -1,4 +1,4 @@
--- How two arcs relate: by where they meet, and of collinear ones by what they share. Definitions only.
+-- SCOPE 9: how two arcs relate, by where they meet, and of collinear ones by what they share. Definitions only.
 use lib.Ieee.{le}
 use Rattle.numbers.specs.Choice.{if_then_else_}
 use Rattle.vec3.specs.declared.Vec3.{Vec3}

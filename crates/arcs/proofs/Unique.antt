@@ -1,4 +1,4 @@
--- The paper's numbers and values tell each answer from every other, and so a contract leaves one answer. Assumes nothing.
+-- The number and values of an answer tell it from every other, and so a contract leaves one answer (SCOPE 27). Assumes nothing.
 use mathlib.Core.Path.{_≡_, refl, sym, ap, _∙_}
 use Prim.Native.Nat.{zero, suc}
 use mathlib.Core.List.{[], _∷_}

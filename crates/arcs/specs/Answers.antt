@@ -1,5 +1,4 @@
--- What the six functions on arcs answer. Document 01: "Any answer that is an enum has a definition. The definition gives this paper's number and values for
--- each of the enum's cases, and the promises use it." Definitions only.
+-- What the six functions on arcs answer: for each case of an answer its number and values (SCOPE 27). Definitions only.
 use Prim.Native.Nat.{ℕ, zero, suc}
 use mathlib.Core.Bool.{Bool, true, false}
 use mathlib.Core.List.{List, [], _∷_}
@@ -35,7 +34,7 @@ pub data Told : Type 0 where
 abbrev pub vectors : MinorArc → List Vec3
 vectors a = a .start ∷ a .end ∷ a .normal ∷ []
 
--- ---- the paper's number and values for each case
+-- ---- the number and values of each case, a relation's by SCOPE 9
 abbrev pub toldMade : ArcMade → Told
 toldMade (Made.Refused n) = refused n
 toldMade (Made.Arc a) = answer 0 (vectors a)
@@ -63,12 +62,11 @@ toldRelated (Related.Intersecting p) = answer 1 (p ∷ [])
 toldRelated (Related.Touching p) = answer 2 (p ∷ [])
 toldRelated (Related.Overlapping a) = answer 3 (vectors a)
 
--- ---- what is handed in. "Every position or normal handed in is made free of -0.0"
+-- ---- what is handed in. SCOPE 3: free of -0.0
 abbrev pub clearedArc : MinorArc → MinorArc
 clearedArc a = record { start = cleared (a .start); end = cleared (a .end); normal = cleared (a .normal) }
 
--- "an arc's positions go one by one, 3 before 4, all ahead of its normals"; "refusals of the first loop or arc all come before those of the second, both
--- before query positions"
+-- SCOPE 26: an arc's positions one by one, 3 before 4, ahead of its normal; a first arc before a second, both before a query position
 unfoldable pub arcFault : MinorArc → ℕ
 arcFault a = first (first (faultOf (a .start)) (faultOf (a .end))) (vectorFault (a .normal) 0)
 

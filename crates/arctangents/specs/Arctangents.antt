@@ -1,4 +1,4 @@
--- The arctangent in three goes, for many at once. Definitions only; that together they are `between` is proofs/Between.
+-- The arctangent (SCOPE 6) in three goes, for many at once. Definitions only; that together they are `between` is proofs/Between.
 use Prim.Native.Nat.{ℕ}
 use mathlib.Core.Bool.{cond}
 use mathlib.Core.List.{List, [], _∷_}

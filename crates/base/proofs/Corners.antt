@@ -1,4 +1,4 @@
--- The sides that document 01 settles: antt computes each. Assumes nothing.
+-- The sides of SCOPE 37: antt computes each. Assumes nothing.
 use mathlib.Core.Path.{_≡_, refl}
 use lib.Ieee.{add, sub, mul, div, neg, lt, le, eq, ofBits}
 use Rattle.root.specs.Root.{rootOf}

@@ -1,5 +1,5 @@
--- The side of v0 against the great circle from v1 to v2. Document 01, "Side": "t = v0·(v1×v2). If |t| is at most 10·2^-52, inclusive, the sign of
--- v0·(`orthogonal_to` of v1, v2) decides, and within 2^-52 of zero it is collinear. Otherwise the sign of t decides. Positive is left." Definitions only.
+-- SCOPE 5: the side of v0 against the great circle from v1 to v2, by the sign of t = v0·(v1 × v2); where |t| is at most 10·2^-52, that limit included, by
+-- v0·`orthogonal_to`(v1, v2). Above 0 is left. Definitions only.
 use mathlib.Core.Bool.{Bool, not, _&&_}
 use lib.Ieee.{Float, lt, le}
 use Rattle.numbers.specs.Choice.{if_then_else_}

@@ -1,4 +1,4 @@
--- The turning angle with a reference vector: the arctangent of a signed sine and a cosine. Definitions only.
+-- SCOPE 6: the turning angle with a reference vector, the arctangent of a signed sine and a cosine. Definitions only.
 use lib.Ieee.{Float, neg, le}
 use Rattle.numbers.specs.Choice.{if_then_else_}
 use Rattle.numbers.specs.F64.{zero}

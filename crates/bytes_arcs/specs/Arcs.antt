@@ -1,6 +1,5 @@
--- The exports on arcs, over bytes. "A position that is not 24 bytes, an arc that is not 72: refusal 1. A query's own 1 comes after all refusals of the arc
--- before it, the second arc's after all of the first's; `desk_arc` judges both lengths before 3 and 4"; 5 "by the bytes that the answer writes"; "Nothing is
--- written on a refusal, nothing past a result". Definitions only.
+-- The exports on arcs, over bytes. SCOPE 34: 1 for a position that is not 24 bytes, an arc that is not 72; a query's own after all refusals of the arc before
+-- it, a second arc's after all of the first's, and `desk_arc` judges both lengths before 3 and 4; 5 by the bytes that the answer writes. Definitions only.
 use Prim.Native.Nat.{ℕ, _*_}
 use mathlib.Core.List.{List, [], _∷_, _++_}
 use lib.ListN.{length}
@@ -47,7 +46,7 @@ intersectionTold a b = judged (nextJudged a b 72) (intersectionAnswer (arcAt a) 
 abbrev pub relateTold : List ℕ → List ℕ → Told
 relateTold a b = judged (nextJudged a b 72) (relateAnswer (arcAt a) (arcAt b))
 
--- ---- what is answered and written
+-- ---- what is answered and written (SCOPE 33)
 abbrev pub numberOf : Told → ℕ
 numberOf (refused f) = refusalOf f
 numberOf (answer n vs) = n

@@ -1,5 +1,4 @@
--- Questions over bytes. "A position that is not 24 bytes, an `_f64` header .. : refusal 1. A query's own 1 comes after all refusals of
--- the loop before it, the second loop's after all of the first's". Definitions only.
+-- Questions over bytes. SCOPE 34: a position's own length is judged after all refusals of the loop before it. Definitions only.
 use Prim.Native.Nat.{ℕ}
 use mathlib.Core.Bool.{Bool, true, false}
 use mathlib.Core.List.{List}
@@ -17,7 +16,7 @@ use Rattle.bytes_loop.specs.Layout.{headerAt, positionsAt, normalsAt, classesAt
 use Rattle.bytes_ask.specs.declared.Question.{Question}
 use Rattle.bytes_ask.specs.declared.Question.the-variants.{Place, Vertex, OnEdge, Convex, Simple}
 
--- the number that is answered
+-- SCOPE 33: the number that is answered
 abbrev pub numberOf : Told → ℕ
 numberOf (refused f) = refusalOf f
 numberOf (answer n) = n
@@ -57,7 +56,7 @@ convexTold s = judged (frameFault s) (convexAnswer (headerAt s) (positionsAt s) 
 abbrev pub simpleTold : List ℕ → Told
 simpleTold s = judged (frameFault s) (simpleAnswer (headerAt s) (positionsAt s) (normalsAt s) (classesAt s))
 
--- "`desk_place_f64(header, positions, normals, classes, x, y, z)`"
+-- with the header alone in bytes, and the position as a vector
 abbrev pub placeTold : List ℕ → List Float → List Float → List ℕ → Vec3 → Told
 placeTold s ps ns cs p = judged (headerFault s) (placeAnswer (headerAt s) ps ns cs p)
 

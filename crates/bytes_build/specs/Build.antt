@@ -1,5 +1,5 @@
--- Building over bytes, and over floats with the header in bytes. "`desk_build(list, out)`: count of the loop written to `out` (0 for empty and full, whose ..
--- bytes are written)"; refusal 5: "`out` of `desk_build` shorter than .. (n the opened count, 0 below three ..)", the size of a loop of n. Definitions only.
+-- Building over bytes, and over floats with the header in bytes: the answer is the count of the loop that was written, 0 for empty and full (SCOPE 32, 33).
+-- SCOPE 34: 5 is judged by the size of a loop of n, the opened count or 0 below three. Definitions only.
 use Prim.Native.Nat.{ℕ, _*_, _/_, _%_, _≤_}
 use mathlib.Core.Path.{_≡_}
 use mathlib.Core.Bool.{Bool, true, false, cond}
@@ -30,7 +30,7 @@ madeOf l = madeIf (ltb (openedCount l) 3) l (openedCount l)
 abbrev pub madeBytes : Made → List ℕ
 madeBytes m = loopBytes (m .header) (m .positions) (m .normals) (m .classes)
 
--- the corners that room is judged by
+-- SCOPE 34: the corners that room is judged by
 unfoldable pub corners : ℕ → ℕ
 corners n = cond (ltb n 3) 0 n
 
@@ -71,7 +71,7 @@ outOutcome o header = record {
   classes = o .classes;
 }
 
--- "the `_f64` header shorter than .. or its slices too short"
+-- SCOPE 34: 5 where a slice is shorter than its part, or the header than its 88 bytes, after the list's own refusals
 unfoldable pub floatsOutcome : List Float → List ℕ → List Float → List Float → List ℕ → FloatsOutcome
 floatsOutcome l header ps ns cs = outOutcome (B.outcomeBy (first (B.refusal l ps ns cs) (needFault (length header) 0)) l ps ns cs) header
 

@@ -1,4 +1,4 @@
--- The checker over bytes: "`desk_accepts(loop, triangles)`: 0, 1". "Triangle bytes not in sixes: 1, with the loop's own 1 (ahead of its 2, 6, 3, 4)". Definitions only.
+-- The checker over bytes, answered by 0 or 1. SCOPE 34: triangle bytes that are not in sixes come with the loop's own 1. Definitions only.
 use Prim.Native.Nat.{ℕ, _/_, _%_}
 use mathlib.Core.Bool.{cond}
 use mathlib.Core.List.{List}

@@ -1,5 +1,5 @@
--- Triangles over bytes: "`desk_triangles(loop, out)`: number of triples written", three u16 each. 5: "an output is shorter than the result needs", judged
--- "for a ring's triangles by n-2, before 8". Definitions only.
+-- Triangles over bytes, three u16 each, answered by their number. SCOPE 26, 34: 5 is judged by six bytes for each triangle of the result, of a ring by n - 2
+-- and before 8. Definitions only.
 use Prim.Native.Nat.{ℕ, _-_, _*_, _≤_}
 use mathlib.Core.Bool.{cond}
 use mathlib.Core.List.{List}

@@ -1,6 +1,5 @@
--- A loop in bytes. "u16 count, u8 state, u8 marks (1 reversed, 2 weak, 4 insides present), four zero bytes, cap centre and radius (4 f64), two insides
--- (6 f64, zero where absent), then 24n bytes of positions, 24n of normals, n of classes: 88 + 49n bytes. A state byte above 2 or a length that does not agree
--- is refusal 1; unknown mark bits and the four bytes are passed over". Definitions only.
+-- SCOPE 32: a loop in bytes: 88 of a header, 24n of positions, 24n of normals, n of classes; unknown mark bits and the four zero bytes are passed over.
+-- SCOPE 34: a state byte above 2 or a length that does not agree is refusal 1. Definitions only.
 use Prim.Native.Nat.{ℕ, _+_, _-_, _*_, _/_, _%_, _≤_}
 use mathlib.Core.Path.{_≡_}
 use mathlib.Core.Bool.{Bool, true, false, cond}
@@ -55,7 +54,7 @@ marked marks mark = eqb (marks / mark % 2) 1
 abbrev pub capAt : List ℕ → Cap
 capAt s = record { centre = vecOf s 8; radius = squared (floatOf s 32) }
 
--- "Mark 4 says that insides are there: they are judged and used whatever the count and state. Without it bytes 40 to 87 are neither judged nor used"
+-- SCOPE 32: insides are there where mark 4 says so, judged and used whatever the count and state; otherwise bytes 40 to 87 are not looked at
 unfoldable pub insidesAt : List ℕ → Insides
 insidesAt s = if marked (marksAt s) 4 then Two (vecOf s 40) (vecOf s 64) else Absent
 
@@ -79,7 +78,7 @@ normalsAt s = floatsAt s (normalsFrom (countAt s)) (3 * countAt s)
 abbrev pub classesAt : List ℕ → List ℕ
 classesAt s = drop (classesFrom (countAt s)) s
 
--- ---- refusal 1 of bytes, ahead of what the loop itself is refused for
+-- ---- SCOPE 34: refusal 1 of bytes, ahead of what the loop itself is refused for
 unfoldable pub stateFault : List ℕ → ℕ
 stateFault s = cond (ltb 2 (stateByte s)) 1 0
 
@@ -87,14 +86,14 @@ stateFault s = cond (ltb 2 (stateByte s)) 1 0
 unfoldable pub sizeFault : ℕ → ℕ → ℕ
 sizeFault size n = cond (eqb size n) 0 1
 
--- "an `_f64` header to be read that is not 88"
+-- a header that comes by itself has 88 bytes
 unfoldable pub headerFault : List ℕ → ℕ
 headerFault s = first (sizeFault (length s) headerSize) (stateFault s)
 
 unfoldable pub frameFault : List ℕ → ℕ
 frameFault s = first (sizeFault (length s) (loopSize (countAt s))) (stateFault s)
 
--- ---- what cannot be copied into work arrays: a count above 512 is 2, or 1 where it does not fit its state
+-- ---- what cannot be copied into work arrays. SCOPE 25: a count above 512 is 2, or 1 where it does not fit its state
 abbrev pub largeFault : State → ℕ
 largeFault Empty = 1
 largeFault Full = 1
@@ -106,7 +105,7 @@ manyFault s = cond (ltb 512 (countAt s)) (largeFault (stateOf (stateByte s))) 0
 unfoldable pub copyFault : List ℕ → ℕ
 copyFault s = first (frameFault s) (manyFault s)
 
--- ---- the bytes of a loop
+-- ---- SCOPE 32: the bytes of a loop
 abbrev pub stateCode : State → ℕ
 stateCode = L.stateCode
 

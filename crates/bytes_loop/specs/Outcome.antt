@@ -9,11 +9,11 @@ pub record Outcome (A : Type 0) : Type 0 where
 abbrev pub outcome : {A : Type 0} → ℕ → List A → Outcome A
 outcome n out = record { number = n; out = out }
 
--- "a refusal is 65,536 plus its number"
+-- SCOPE 33: a refusal is 65,536 plus its number
 abbrev pub refusalOf : ℕ → ℕ
 refusalOf f = 65536 + f
 
--- a refusal leaves the output as it was
+-- SCOPE 33: a refusal leaves the output as it was
 abbrev pub outcomeBy : {A : Type 0} → ℕ → List A → Outcome A → Outcome A
 outcomeBy zero out x = x
 outcomeBy (suc k) out x = outcome (refusalOf (suc k)) out

@@ -1,4 +1,4 @@
--- Two loops in bytes. "the second arc's or loop's" refusals come "after all of the first's". Definitions only.
+-- Two loops in bytes. SCOPE 34: the second's refusals come after all of the first's. Definitions only.
 use Prim.Native.Nat.{ℕ}
 use mathlib.Core.List.{List}
 use lib.Ieee.{Float}
@@ -30,7 +30,7 @@ againstTold q h ps ns cs b = nextTold q h ps ns cs (frameFault b) (headerAt b) (
 abbrev pub pairTold : Comparison → List ℕ → List ℕ → Told
 pairTold q a b = judged (frameFault a) (againstTold q (headerAt a) (positionsAt a) (normalsAt a) (classesAt a) b)
 
--- "`desk_pair_f64` (the same four, twice)": the headers alone are bytes
+-- with the headers alone in bytes
 abbrev pub floatsTold : List ℕ → List Float → List Float → List ℕ → List ℕ → List Float → List Float → List ℕ → Told
 floatsTold a ps ns cs b qs ms ds = judged (headerFault a) (nextTold Relation (headerAt a) ps ns cs (headerFault b) (headerAt b) qs ms ds)
 

@@ -1,6 +1,5 @@
--- Caps. Document 01: "bounding cap tests": "containment with `lte`, intersection with `gte`"; "Its centre comes from the opened list summed in the order
--- given, before any reversal"; "The cap's growth is a fixed squared chord, and the test "radius at least a quarter circle" compares the squared chord with
--- one threshold near 2; both numbers are recorded bit for bit from the Rust" (docs/CONSTANTS.md). Definitions only.
+-- SCOPE 14: caps. One contains by `lte` and meets another by `gte`. The bounding cap's centre is of the opened list summed in the order given, before any
+-- reversal; its growth and the threshold of a quarter circle are recorded bit for bit (docs/CONSTANTS.md). Definitions only.
 use Prim.Native.Nat.{ℕ}
 use mathlib.Core.Bool.{Bool, false, _||_}
 use mathlib.Core.List.{List}

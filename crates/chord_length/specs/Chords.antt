@@ -1,4 +1,4 @@
--- Squared chords. Document 01: "squared chords, at most 4; -1 marks empty"; "sum is 4 once the two add to 4 or more". Definitions only.
+-- SCOPE 4: squared chords, at most 4; -1 marks the empty cap. Definitions only.
 use mathlib.Core.Bool.{_||_}
 use lib.Ieee.{Float, lt, le, eq}
 use Rattle.numbers.specs.Choice.{if_then_else_}

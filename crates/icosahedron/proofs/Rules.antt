@@ -6,7 +6,7 @@ use Rattle.laws.specs.Loop.{flat, firstOf}
 use Rattle.judge.specs.Judge.{vectorFault, faultOf, positionsFault}
 use Rattle.icosahedron.specs.Table.{positions, triples, rule}
 
--- the triples are those of document 01's rule
+-- the triples are those of the rule in SCOPE 19
 pub triples-by-the-rule : triples ≡ rule
 unfolding triples rule flat
 triples-by-the-rule = refl

@@ -1,4 +1,4 @@
--- The tables of the full loop. Document 01, "FULL": "20 triples over a fixed table of 12 positions, recorded bit for bit from the Rust". Definitions only.
+-- SCOPE 19: the tables of the full loop, 20 triples over 12 positions that are recorded bit for bit. Definitions only.
 use Prim.Native.Nat.{ℕ, _+_, _-_, _*_}
 use mathlib.Core.List.{List, [], _∷_, _++_}
 use lib.ListN.{getD}
@@ -77,7 +77,7 @@ triples =
 abbrev pub positionAt : ℕ → Vec3
 positionAt i = record { x = getD positions (3 * i) nan; y = getD positions (3 * i + 1) nan; z = getD positions (3 * i + 2) nan }
 
--- the rule: "(0,i,i+1) for i=1..4, (0,5,1); (i,i+1,i+5) for i=1..4, (5,1,10); (i,i+1,i-4) for i=6..9, (10,6,1); (i,i+1,11) for i=6..9, (10,6,11)"
+-- SCOPE 19: the rule by which the triples are numbered, five of each form, the fifth of which closes the round
 abbrev top : ℕ → List ℕ
 top i = 0 ∷ i ∷ (i + 1) ∷ []
 

@@ -1,5 +1,5 @@
--- Refusals 3 and 4, as numbers, 0 for none. Document 01: 3 "a component is NaN or infinite", 4 "a position's squared norm is outside the range",
--- "from 1-2^-40 to 1+2^-40, ends included"; "positions go one by one, 3 before 4". Definitions only.
+-- SCOPE 25: refusals 3 and 4, as numbers, 0 for none: a component that is NaN or infinite, a squared norm outside 1 - 2^-40 to 1 + 2^-40 (SCOPE 10).
+-- SCOPE 26: positions go one by one, 3 before 4 for each. Definitions only.
 use Prim.Native.Nat.{ℕ}
 use mathlib.Core.Bool.{Bool, _&&_}
 use mathlib.Core.List.{List}

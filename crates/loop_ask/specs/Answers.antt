@@ -1,5 +1,4 @@
--- The answers by cases, with the paper's numbers. Document 01: "Any answer that is an enum has a definition. The definition gives this paper's number and
--- values for each of the enum's cases, and the promises use it." Definitions only.
+-- The answers by cases, each with its number (SCOPE 21, 27). Definitions only.
 use Prim.Native.Nat.{ℕ, zero, suc}
 use mathlib.Core.Bool.{Bool, true, false}
 use Rattle.loop_ask.specs.declared.Placed.{Placed}

@@ -1,4 +1,4 @@
--- Where a place lies, as a number: 0 outside, 1 inside, 2 mute. Definitions only.
+-- SCOPE 21: where a place lies, as a number: 0 outside, 1 inside, 2 mute. Definitions only.
 use Prim.Native.Nat.{ℕ}
 use mathlib.Core.Bool.{Bool, true, false}
 use mathlib.Core.List.{List}
@@ -15,7 +15,7 @@ use Rattle.loop_header.specs.declared.State.the-variants.{Empty, Full, Ring}
 use Rattle.loop_header.specs.declared.Header.{Header}
 use Rattle.ring_place.specs.Places.{insideBy, inTriangle}
 
--- "Every position or normal handed in is made free of -0.0"
+-- SCOPE 3: free of -0.0
 abbrev pub clearedCap : Cap → Cap
 clearedCap c = record { centre = cleared (c .centre); radius = c .radius }
 
@@ -29,7 +29,7 @@ placeNoCorner Empty = 0
 placeNoCorner Full = 1
 placeNoCorner Ring = 0
 
--- three corners by their sides; "A ring above three without them contains nothing, as in the source; its header says mute"
+-- SCOPE 21: three corners by their sides; a ring above three without insides is mute
 unfoldable pub placeWithout : Header → List Float → List Float → Vec3 → ℕ
 placeWithout h ps ns p =
     if eqb (h .count) 3 then insideCode (inTriangle ps ns p) else

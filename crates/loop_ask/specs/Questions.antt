@@ -1,4 +1,4 @@
--- What the questions answer: the refusal, or the answer's number. Document 01: refusals of the loop "before query positions". Definitions only.
+-- What the questions answer: the refusal, or the answer's number. SCOPE 26: the loop's refusals before a query position's. Definitions only.
 use Prim.Native.Nat.{ℕ, _*_, _≤_}
 use mathlib.Core.Path.{_≡_}
 use mathlib.Core.Bool.{Bool, true, false, not, Bool·beq}
@@ -38,7 +38,7 @@ convexAnswer h ps ns cs = judged (loopFault h ps ns cs) (boolTold (convex ps (h 
 unfoldable pub simpleAnswer : Header → List Float → List Float → List ℕ → Told
 simpleAnswer h ps ns cs = judged (loopFault h ps ns cs) (boolTold (simple ps ns (h .count)))
 
--- "refusals 1 to 4 and 6 of the first loop all come before those of the second"
+-- SCOPE 26: refusals 1 to 4 and 6 of a first loop all come before those of a second
 unfoldable pub pairFault : Header → List Float → List Float → List ℕ → Header → List Float → List Float → List ℕ → ℕ
 pairFault h ps ns cs o qs ms ds = first (loopFault h ps ns cs) (loopFault o qs ms ds)
 
@@ -55,7 +55,7 @@ pub record Comparable (h : Header) (ps : List Float) (cs : List ℕ) (o : Header
   pub others : length qs ≡ 3 * o .count
   pub codes : length ds ≡ o .count
 
--- of loops with no corner, two empty or two full ones; otherwise by positions and classes
+-- SCOPE 23: of loops with no corner, two empty or two full ones; otherwise by positions and classes
 unfoldable pub equivalentLoops : Header → List Float → List ℕ → Header → List Float → List ℕ → Bool
 equivalentLoops h ps cs o qs ds =
     if not (eqb (h .count) (o .count)) then false else

@@ -1,4 +1,4 @@
--- What building a loop answers, and what it leaves in the slices that it was lent. Definitions only.
+-- What building a loop answers, and what it leaves in the slices that it was lent (SCOPE 11 to 15). Definitions only.
 use Prim.Native.Nat.{ℕ, zero, suc, _*_, _/_, _%_, _≤_}
 use mathlib.Core.Path.{_≡_}
 use mathlib.Core.Bool.{Bool, true, false, _&&_, _||_, cond}
@@ -22,13 +22,13 @@ use Rattle.loop_header.specs.Loops.{emptyHeader, fullHeader}
 use Rattle.loop_build.specs.declared.Built.{Built}
 use Rattle.loop_build.specs.declared.Built.the-variants.{Refused, Loop}
 
--- 1: "not in threes"; 2: "more than 512 positions"; then 3 and 4 position by position
+-- SCOPE 25: 1 where the list is not in threes, 2 above 512 positions, then 3 and 4 position by position
 unfoldable pub listFault : List Float → ℕ
 listFault l =
     first (cond (eqb (length l % 3) 0) 0 1)
     (first (cond (ltb 512 (length l / 3)) 2 0) (positionsFault l (length l / 3)))
 
--- 5: "judged by the opened count whenever that is three or more", for positions, normals and classes each
+-- SCOPE 26: 5 is judged by the opened count where that is three or more, for positions, normals and classes each
 unfoldable pub roomFault : ℕ → ℕ → ℕ → ℕ → ℕ
 roomFault n positions normals classes = cond (leb 3 n && ((ltb positions (3 * n) || ltb normals (3 * n)) || ltb classes n)) 5 0
 
@@ -48,11 +48,11 @@ pub record Prepared : Type 0 where
 abbrev pub prepared : List Float → ℕ → Prepared
 prepared l n = record { sum = turnSum l n; edges = edgeNormals l n; classes = classesOf l n (reversal l n) }
 
--- a triangle needs no insides
+-- SCOPE 18: three corners need no insides
 unfoldable pub insidesFor : List Float → List ℕ → Insides
 insidesFor ps cs = cond (ltb 3 (length cs)) (insidesOf ps cs) Absent
 
--- a ring's header. "The cap: its centre comes from the opened list summed in the order given, before any reversal"
+-- a ring's header. SCOPE 14: the cap is that of the opened list in the order given, before any reversal
 unfoldable pub ringHeader : List Float → ℕ → Bool → Header
 ringHeader l n reversed = record {
   count = n;
@@ -85,7 +85,7 @@ pub record Lent (l : List Float) (n edges codes positions normals classes : ℕ)
   pub normals-room : 3 * n ≤ normals
   pub classes-room : n ≤ classes
 
--- a ring that is written: its insides, and the three slices. "Bytes past a result stay"
+-- a ring that is written: its insides, and the three slices. SCOPE 27: what lies past a result stays
 pub record Written : Type 0 where
   pub insides : Insides
   pub positions : List Float
@@ -115,7 +115,7 @@ ringMade l n reversed ps ns cs = record {
   classes = classesOf l n reversed ++ drop n cs;
 }
 
--- "All both: FULL", and the slices as they were
+-- SCOPE 13, 27: where all classes are both the loop is FULL, and the slices are as they were
 abbrev pub madeIf : Bool → List Float → ℕ → Bool → List Float → List Float → List ℕ → Made
 madeIf true l n reversed ps ns cs = record { header = fullHeader (weak (turnSum l n)); positions = ps; normals = ns; classes = cs }
 madeIf false l n reversed ps ns cs = ringMade l n reversed ps ns cs
@@ -123,7 +123,7 @@ madeIf false l n reversed ps ns cs = ringMade l n reversed ps ns cs
 unfoldable pub made : List Float → ℕ → List Float → List Float → List ℕ → Made
 made l n ps ns cs = madeIf (allBoth (classesOf l n (reversal l n))) l n (reversal l n) ps ns cs
 
--- the answer by cases: the refusal's number of the paper, or the header's values
+-- SCOPE 27: the answer by cases, the refusal's number or the header's values
 pub data Told : Type 0 where
   refused : ℕ → Told
   loop : Header → Told
@@ -145,7 +145,7 @@ kept a ps ns cs = record { answer = a; positions = ps; normals = ns; classes = c
 abbrev pub outcomeOf : Made → Outcome
 outcomeOf m = record { answer = loop (m .header); positions = m .positions; normals = m .normals; classes = m .classes }
 
--- "Fewer than three left: EMPTY"
+-- SCOPE 11: with fewer than three left the loop is EMPTY
 abbrev pub outcomeIf : Bool → List Float → ℕ → List Float → List Float → List ℕ → Outcome
 outcomeIf true l n ps ns cs = kept (loop emptyHeader) ps ns cs
 outcomeIf false l n ps ns cs = outcomeOf (made l n ps ns cs)

@@ -1,4 +1,4 @@
--- A loop's header, and what a loop that is handed back is refused for: the number, 0 for none. Document 01's table and the paragraph under it. Definitions only.
+-- A loop's header (SCOPE 15), and what a loop that is handed back is refused for: the number, 0 for none (SCOPE 25, 26). Definitions only.
 use Prim.Native.Nat.{ℕ, _*_, _%_}
 use mathlib.Core.Bool.{Bool, true, false, _&&_, cond}
 use mathlib.Core.List.{List}
@@ -17,20 +17,20 @@ use Rattle.loop_header.specs.declared.State.{State}
 use Rattle.loop_header.specs.declared.State.the-variants.{Empty, Full, Ring}
 use Rattle.loop_header.specs.declared.Header.{Header}
 
--- the paper's number of each state
+-- SCOPE 15: the number of each state
 abbrev pub stateCode : State → ℕ
 stateCode Empty = 0
 stateCode Full = 1
 stateCode Ring = 2
 
--- "Empty is kept and steady; full is kept"
+-- SCOPE 15: EMPTY is kept and steady, FULL is kept
 abbrev pub emptyHeader : Header
 emptyHeader = record { count = 0; state = Empty; cap = emptyOne; insides = Absent; reversed = false; weak = false }
 
 abbrev pub fullHeader : Bool → Header
 fullHeader weak = record { count = 0; state = Full; cap = fullOne; insides = Absent; reversed = false; weak = weak }
 
--- "mute": "A ring above three without" insides
+-- SCOPE 15: mute is a loop of more than three corners without insides
 abbrev pub isAbsent : Insides → Bool
 isAbsent Absent = true
 isAbsent (Two a b) = false
@@ -38,31 +38,31 @@ isAbsent (Two a b) = false
 abbrev pub mute : Header → Bool
 mute h = ltb 3 (h .count) && isAbsent (h .insides)
 
--- 1: "the count does not fit its state (0 for empty and full, at least 3 for a ring)"
+-- SCOPE 25: 1 for a count that does not fit its state
 abbrev pub countFits : State → ℕ → Bool
 countFits Empty count = eqb count 0
 countFits Full count = eqb count 0
 countFits Ring count = leb 3 count
 
--- 1: "a ring's slice does not agree with the loop's count", three floats or one code for each corner
+-- SCOPE 25: 1 for a slice that does not agree with the count, three floats or one code for each corner
 unfoldable pub threesOf : ℕ → ℕ → Bool
 threesOf size count = eqb size (3 * count)
 
 unfoldable pub shapeFault : Header → List Float → List ℕ → ℕ
 shapeFault h ps cs = cond ((countFits (h .state) (h .count) && threesOf (length ps) (h .count)) && eqb (length cs) (h .count)) 0 1
 
--- 6: "a class code above 2"
+-- SCOPE 25: 6 for a class code above 2
 abbrev pub classFault : List ℕ → ℕ → ℕ
 classFault cs i = cond (ltb 2 (getD cs i 0)) 6 0
 
 unfoldable pub classesFault : List ℕ → ℕ
 classesFault cs = firstOf (classFault cs) (length cs) 0
 
--- 2: "a ring count above 512"; then 6, then 3 and 4 position by position
+-- SCOPE 25: 2 for a ring count above 512; then 6, then 3 and 4 position by position
 unfoldable pub ringFault : Header → List Float → List ℕ → ℕ
 ringFault h ps cs = first (cond (ltb 512 (h .count)) 2 0) (first (classesFault cs) (positionsFault ps (h .count)))
 
--- 3, of the cap and the insides
+-- SCOPE 25: 3, of the cap and the insides
 unfoldable pub capFault : Cap → ℕ
 capFault c = cond (finiteVec (c .centre) && finite (c .radius .0)) 0 3
 
@@ -70,21 +70,21 @@ abbrev pub insidesFault : Insides → ℕ
 insidesFault Absent = 0
 insidesFault (Two a b) = first (vectorFault a 0) (vectorFault b 0)
 
--- 3, of normals, cap and insides, after all positions
+-- SCOPE 26: 3, of normals, cap and insides, after all positions
 unfoldable pub vectorsFault : Header → List Float → ℕ
 vectorsFault h ns = first (J.vectorsFault ns (h .count)) (first (capFault (h .cap)) (insidesFault (h .insides)))
 
--- "Cutting triangles and the checker read a loop's count, state, positions and classes alone and judge no normal, cap or inside"
+-- SCOPE 27: cutting and the checker judge no normal, cap or inside
 unfoldable pub cutFault : Header → List Float → List ℕ → ℕ
 cutFault h ps cs = first (shapeFault h ps cs) (ringFault h ps cs)
 
--- 9: "the checker is given an empty or full loop"
+-- SCOPE 25: 9 where the checker is given an empty or full loop
 abbrev pub ringOnly : State → ℕ
 ringOnly Empty = 9
 ringOnly Full = 9
 ringOnly Ring = 0
 
--- the checker: 1 also for a triangle slice that is not in threes
+-- SCOPE 25: the checker, 1 also for a triangle slice that is not in threes
 unfoldable pub checkFault : Header → List Float → List ℕ → ℕ → ℕ
 checkFault h ps cs size =
     first (shapeFault h ps cs)

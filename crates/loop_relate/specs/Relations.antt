@@ -1,4 +1,4 @@
--- How two loops stand to each other: the refusal, or the relation's number of the paper. Definitions only.
+-- SCOPE 24: how two loops stand to each other, the refusal or the relation's number. Definitions only.
 use Prim.Native.Nat.{ℕ, zero, suc, _*_, _≤_}
 use mathlib.Core.Bool.{Bool, true, false, not, _&&_}
 use mathlib.Core.List.{List}
@@ -19,7 +19,7 @@ use Rattle.loop_ask.specs.Questions.{fullState, pairFault, equivalentLoops}
 use Rattle.loop_relate.specs.declared.Related.{Related}
 use Rattle.loop_relate.specs.declared.Related.the-variants as Related
 
--- the six relations in the source's order
+-- SCOPE 24: the number of each relation
 abbrev pub toldRelated : Related → Told
 toldRelated (Related.Refused k) = refused k
 toldRelated Related.Disjoint = answer 0
@@ -43,7 +43,7 @@ pub record Sized (h : Header) (ps ns : List Float) (o : Header) (qs ms : List Fl
   pub other-positions : 3 * o .count ≤ length qs
   pub other-normals : 3 * o .count ≤ length ms
 
--- "a mute loop contains nothing"
+-- a mute loop contains nothing here
 abbrev pub isInside : Told → Bool
 isInside (refused k) = false
 isInside (answer zero) = false
@@ -63,7 +63,7 @@ probeInside (Middle p) o qs ms = placedInside o qs ms p
 unfoldable pub liesIn : Header → List Float → Header → List Float → List Float → Bool
 liesIn h ps o qs ms = probeInside (unambiguousPoint ps (h .count) qs ms (o .count)) o qs ms
 
--- 7: "`relate` finds each loop in the other where the Rust stops"
+-- SCOPE 25: 7 where each loop is found in the other
 abbrev pub byContainment : Bool → Bool → Bool → Told
 byContainment touched true true = refused 7
 byContainment touched true false = answer 4
@@ -71,7 +71,7 @@ byContainment touched false true = answer 3
 byContainment true false false = answer 1
 byContainment false false false = answer 0
 
--- "the first crossing ends it, touching and overlapping are remembered"
+-- edges that cross are intersecting, whatever else touches
 abbrev pub edgesIf : Bool → Told → Told
 edgesIf true t = answer 2
 edgesIf false t = t
@@ -109,6 +109,6 @@ byStates h ps ns cs o qs ms ds =
 unfoldable pub relateAnswer : Header → List Float → List Float → List ℕ → Header → List Float → List Float → List ℕ → Told
 relateAnswer h ps ns cs o qs ms ds = judged (pairFault h ps ns cs o qs ms ds) (byStates h ps ns cs o qs ms ds)
 
--- whether a midpoint was asked for in either search: "a pair that needed one leaves the domain"
+-- SCOPE 10: whether a midpoint was asked for in either search; the pair is then outside the domain
 unfoldable pub neededMidpoint : Header → List Float → List Float → Header → List Float → List Float → Bool
 neededMidpoint h ps ns o qs ms = not (not (askedMidpoint ps (h .count) qs ms (o .count)) && not (askedMidpoint qs (o .count) ps ns (h .count)))

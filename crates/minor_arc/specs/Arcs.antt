@@ -1,4 +1,4 @@
--- Minor arcs: where a point of an arc's great circle lies, and where two arcs meet. Definitions only.
+-- SCOPE 7, 8: minor arcs, where a point of an arc's great circle lies, and where two arcs meet. Definitions only.
 use mathlib.Core.Bool.{Bool, true, false, _&&_, _||_}
 use mathlib.Core.Path.{_≡_}
 use lib.Dec.{T}
@@ -35,13 +35,13 @@ pub record PlainVec (v : Vec3) : Type 0 where
   pub on-y : Plain (v .y)
   pub on-z : Plain (v .z)
 
--- by the sign of the product with the normal; a NaN product is left
+-- SCOPE 7: by the sign of the product with the normal; a NaN product is left
 unfoldable pub arcSide : MinorArc → Vec3 → Side
 arcSide a p =
     let d = dot p (a .normal) in
     if near d zero then Collinear else if lt d zero then Right else Left
 
--- by the sides of a point against (normal, start) and (normal, end)
+-- SCOPE 7: by the sides of a point against (normal, start) and (normal, end)
 abbrev pub located : Side → Side → Location
 located Right e = Exterior
 located Left Left = Exterior
@@ -62,7 +62,7 @@ within Exterior = false
 unfoldable pub onArc : MinorArc → Vec3 → Bool
 onArc a p = near (dot p (a .normal)) zero && within (locationOf a p)
 
--- document 01, "Arcs meeting": of a point and its opposite "the one on the side of this arc's start is the only candidate"
+-- SCOPE 8: of a point and its opposite the one on the side of this arc's start is the only candidate
 unfoldable pub nearer : Vec3 → Vec3 → Vec3
 nearer s i = if lt zero (dot s i) then i else opposite i
 
@@ -85,13 +85,13 @@ meetAt p Interior Interior = M.Crossing p
 unfoldable pub meetingIn : MinorArc → MinorArc → Vec3 → Meeting
 meetingIn a b p = meetAt p (locationOf a p) (locationOf b p)
 
--- "the two great circles meet in a point and its opposite", unless the unit vector of the normals' product is exactly zero
+-- SCOPE 8: by that candidate, unless the unit vector of the normals' product is exactly zero: then the arcs are collinear
 unfoldable pub meetingOf : MinorArc → MinorArc → Meeting
 meetingOf a b =
     let i = stableUnit (a .normal) (b .normal) in
     if same i origin then M.Collinear else meetingIn a b (nearer (a .start) i)
 
--- what `intersection` makes of it: none for collinear arcs
+-- SCOPE 8: what `intersection` makes of it, none for collinear arcs
 abbrev pub meetingPoint : Meeting → Point
 meetingPoint M.Apart = Absent
 meetingPoint M.Collinear = Absent

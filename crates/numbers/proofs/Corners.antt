@@ -1,4 +1,4 @@
--- Document 01: "2^-52 equals zero, the next float up does not". By computation. Assumes nothing.
+-- SCOPE 1: 2^-52 is near 0, the next float up is not. By computation. Assumes nothing.
 use mathlib.Core.Path.{_≡_, refl}
 use mathlib.Core.Bool.{true, false}
 use lib.Ieee.{binary64, ofBits, sub, neg, lt, le}

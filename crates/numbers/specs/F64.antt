@@ -1,4 +1,4 @@
--- Rust's operators on `f64`, each rounded once, and the constants that the rules name. Definitions only.
+-- SCOPE 1: Rust's operators on `f64`, each rounded once, and the constants that the rules name. Definitions only.
 use lib.Ieee.{Float, binary64, ofBits, add, sub, mul, div}
 
 infixl 65 _⊕_

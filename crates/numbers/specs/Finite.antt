@@ -1,4 +1,4 @@
--- What is neither NaN nor infinite. Definitions only.
+-- What is neither NaN nor infinite, as refusal 3 asks (SCOPE 25). Definitions only.
 use mathlib.Core.Bool.{Bool, true, false}
 use lib.Ieee.{Float, nan, inf, fin}
 

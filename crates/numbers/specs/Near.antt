@@ -1,4 +1,4 @@
--- Equality within 2^-52, inclusive, and the orders that count it in. Document 01: "equality within 2^-52, inclusive". Definitions only.
+-- SCOPE 1: equality within 2^-52, that difference included, and the orders that count it in. Definitions only.
 use mathlib.Core.Bool.{Bool, cond, _||_}
 use lib.Ieee.{Float, neg, lt, le}
 use Rattle.numbers.specs.F64.{_⊖_, zero, epsilon}

@@ -1,4 +1,4 @@
--- Document 01's loop of four corners, reversed and all convex: cut into (3,0,1), (1,2,3), while (0,1,2), (0,2,3) is accepted too and (0,1,3), (1,2,3) is not.
+-- SCOPE 37: the loop of four corners, all convex, is cut into (3,0,1), (1,2,3), while (0,1,2), (0,2,3) is accepted too and (0,1,3), (1,2,3) is not.
 -- By computation. Assumes nothing.
 use Prim.Native.Nat.{ℕ}
 use mathlib.Core.Path.{_≡_, refl}

@@ -1,6 +1,5 @@
--- What it is for a list of triples to be accepted: n - 2 of them, each but the last an eligible ear of the ring then left, in the order previous, this, next,
--- and the last that ring's three, from its first. Document 01: "The checker says no, without refusing, for a wrong number of triples, a rotated triple or a
--- number outside the ring." Definitions only.
+-- SCOPE 20: a list of triples is accepted if there are n - 2, each but the last an eligible ear of the ring then left, in the order previous, this, next,
+-- and the last is that ring's three, from its first. To any other the answer is no. Definitions only.
 use Prim.Native.Nat.{ℕ, zero, suc, _-_, _*_}
 use mathlib.Core.Bool.{Bool, true, false, _&&_}
 use mathlib.Core.List.{List, [], _∷_}

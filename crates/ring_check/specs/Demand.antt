@@ -1,4 +1,4 @@
--- What demand 3 says of the lists that the checker accepts and of our cutting, in its own words beside each. Proved in proofs/Theorems.antt. Definitions only.
+-- Demand 3 (SCOPE 20) of the lists that the checker accepts and of our cutting. Proved in proofs/Theorems.antt. Definitions only.
 use Prim.Native.Nat.{ℕ, _<_}
 use mathlib.Core.Path.{_≡_}
 use mathlib.Core.Bool.{true, false}
@@ -25,17 +25,15 @@ pub record MeetsNoEar (ps : List Float) (s : Remaining) : Type 0 where
 
 -- of a ring with the positions ps and the classes given: proved for every number of corners from three on, so from 3 to 512
 pub record Demand (ps : List Float) (classes : List ℕ) : Type 0 where
-  -- the checker accepts the lists of "n-2 triples, each but the last an eligible ear of the ring then left, in that order of numbers, the last that ring's
-  -- three", and no others
+  -- the checker accepts the lists whose triples are, but for the last, eligible ears of the ring then left, and whose last is that ring's three, and no others
   pub only-ears : (tris : List ℕ) → accepted ps classes tris ≡ true → CutBy ps (Eligible ps) (wholeRing classes) tris
   pub all-ears : (tris : List ℕ) → CutBy ps (Eligible ps) (wholeRing classes) tris → accepted ps classes tris ≡ true
-  -- "over any list that the checker accepts": n - 2 triples; "each loop side lies in one triple", "every other side in two, run opposite ways"; "no two
-  -- inner sides cross in ring order"
+  -- in any list that it accepts: n - 2 triples, each side of the loop in one, every other side in two, run opposite ways, and no two inner sides cross
   pub sides : (tris : List ℕ) → accepted ps classes tris ≡ true → Demand3 (length classes) tris
-  -- "of our cutting: it takes the lowest ear each time"
+  -- our cutting takes the lowest ear each time
   pub lowest : cuttingOf ps classes .stuck ≡ false → CutBy ps (Lowest ps) (wholeRing classes) (cuttingOf ps classes .triangles)
-  -- "it is stuck exactly if a ring above three that it reaches has no eligible ear"
+  -- it is stuck exactly if it reaches a ring above three that has no eligible ear
   pub stuck-meets : cuttingOf ps classes .stuck ≡ true → MeetsNoEar ps (wholeRing classes)
   pub meets-stuck : MeetsNoEar ps (wholeRing classes) → cuttingOf ps classes .stuck ≡ true
-  -- "otherwise its list is accepted"
+  -- and otherwise the checker accepts its list
   pub own-list : cuttingOf ps classes .stuck ≡ false → accepted ps classes (cuttingOf ps classes .triangles) ≡ true

@@ -29,7 +29,7 @@ unfolding opened
 opened-le l zero = omega arith
 opened-le l (suc k) = either (closed l (suc k)) k
 
--- document 01: "opening [a] leaves 0, [a,b,c,a] leaves 3, [a,b,c,a,a] leaves 4": a closed list loses one position, and an open one none
+-- SCOPE 37: opening [a] leaves 0, [a,b,c,a] leaves 3, [a,b,c,a,a] leaves 4: a closed list loses one position, and an open one none
 pub closed-leaves : (l : List Float) (k : ℕ) → closed l (suc k) ≡ true → opened l (suc k) ≡ k
 unfolding opened
 closed-leaves l k e = rw e

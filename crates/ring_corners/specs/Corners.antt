@@ -14,7 +14,7 @@ use Rattle.vec3.specs.Vec.{same, dot, opposite, posAt, coords}
 use Rattle.angle.specs.Angles.{clockwise}
 use Rattle.ring_turns.specs.Turns.{edgeNormal, turnSum}
 
--- document 01, "Opening": "If first equals last, one closing position goes, no more"
+-- SCOPE 11: a closing position goes, and no more
 abbrev pub closed : List Float → ℕ → Bool
 closed l m = same (posAt l 0) (posAt l (m - 1))
 
@@ -25,7 +25,7 @@ openedIf l (suc k) = cond (closed l (suc k)) k (suc k)
 unfoldable pub opened : List Float → ℕ → ℕ
 opened l m = openedIf l m
 
--- document 01, "Turning clockwise": "Turn sum below 0: kept. Otherwise the opened list is exactly reversed, and each edge's normal is negated, not worked out again"
+-- SCOPE 12: a turn sum below 0 keeps the list; otherwise it is reversed, and each normal is negated, not worked out again
 unfoldable pub reversal : List Float → ℕ → Bool
 reversal l n = not (clockwise (turnSum l n))
 
@@ -40,7 +40,7 @@ unfoldable pub normalAt : List Float → ℕ → Bool → ℕ → Vec3
 normalAt l n true k = opposite (edgeNormal l n ((2 * n - 2 - k) % n))
 normalAt l n false k = edgeNormal l n k
 
--- document 01, "Classes": "By `side_of` the previous edge's start against the current edge: -1 convex, 1 reflex, 0 both", coded 0, 1 and 2
+-- SCOPE 13: by the side of the corner before against the edge to the next: right is convex (0), left is reflex (1), collinear is both (2)
 unfoldable pub classBy : Float → ℕ
 classBy p = if near p F.zero then 2 else (if lt p F.zero then 0 else 1)
 
@@ -57,7 +57,7 @@ normalsOf l n reversed = flat (λ k. coords (normalAt l n reversed k)) n 0
 abbrev pub classesOf : List Float → ℕ → Bool → List ℕ
 classesOf l n reversed = flat (λ k. classAt l n reversed k ∷ []) n 0
 
--- "All both: FULL"
+-- SCOPE 13: if all are both, the loop is FULL
 abbrev pub otherThanBoth : List ℕ → ℕ → Bool
 otherThanBoth classes k = not (eqb (getD classes k 0) 2)
 

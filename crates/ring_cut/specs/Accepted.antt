@@ -1,4 +1,4 @@
--- The lists of triples that cut a ring. Definitions only.
+-- SCOPE 20: the lists of triples that cut a ring. Definitions only.
 use Prim.Native.Nat.{ℕ, _<_}
 use mathlib.Core.Path.{_≡_}
 use mathlib.Core.Bool.{true, false}

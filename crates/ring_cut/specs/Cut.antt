@@ -1,5 +1,4 @@
--- Cutting a ring into triangles. Document 01: "A triangle is three u16 ring numbers: previous, this, next. The last one is the ring left, from its first."
--- Definitions only.
+-- SCOPE 17: cutting a ring into triangles, each three ring numbers: previous, this, next, and of the last the ring left, from its first. Definitions only.
 use Prim.Native.Nat.{ℕ, zero, suc, _-_, _*_, _≤_}
 use mathlib.Core.Path.{_≡_}
 use mathlib.Core.Bool.{Bool, true, false, not}

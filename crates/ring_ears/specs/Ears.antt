@@ -1,5 +1,5 @@
--- Ears of what is left of a ring, and one cut. Document 01, "Eligible ear": "its class is convex and no ring vertex of another class is inside or on an
--- edge of (previous, this, next)"; "After a cut, the two neighbours alone are classed afresh, by `Sphere::side`, and only if more than three are left."
+-- SCOPE 16, 17: ears of what is left of a ring, and one cut. An eligible ear is convex, and no corner of another class is inside its triangle or on an edge of
+-- it. After a cut the two neighbours alone are classed afresh, by the side test (SCOPE 5), and only if more than three are left.
 -- `ids` are the ring numbers left, in order; `classes` are by ring number: 0 convex, 1 reflex, 2 both. Definitions only.
 use Prim.Native.Nat.{ℕ, _-_, _+_, _*_, _%_, _≤_, _<_}
 use mathlib.Core.Path.{_≡_}

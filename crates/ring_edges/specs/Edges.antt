@@ -13,14 +13,14 @@ use Rattle.minor_arc.specs.Arcs.{onArc}
 unfoldable pub edgeAt : List Float → List Float → ℕ → ℕ → MinorArc
 edgeAt ps ns n i = record { start = posAt ps i; end = posAt ps ((i + 1) % n); normal = posAt ns i }
 
--- `any_edge_contains_position`: some edge has p on it
+-- SCOPE 23, `any_edge_contains_position`: some edge has p on it
 abbrev pub edgeHas : List Float → List Float → ℕ → Vec3 → ℕ → Bool
 edgeHas ps ns n p i = onArc (edgeAt ps ns n i) p
 
 unfoldable pub onEdge : List Float → List Float → ℕ → Vec3 → Bool
 onEdge ps ns n p = anyOf (edgeHas ps ns n p) n 0
 
--- `has_vertex`: some corner equals p
+-- SCOPE 23, `has_vertex`: some corner equals p
 abbrev pub cornerIs : List Float → Vec3 → ℕ → Bool
 cornerIs ps p i = same (posAt ps i) p
 

@@ -1,4 +1,4 @@
--- The insides of a ring. Document 01: "Means of the first two cuts that have one, the last triangle included; without two, there are none." Definitions only.
+-- SCOPE 18: the insides of a ring, the means of the first two triangles cut that have one, the last included; without two, none. Definitions only.
 use Prim.Native.Nat.{ℕ}
 use mathlib.Core.Bool.{Bool, true, false}
 use mathlib.Core.List.{List, [], _∷_}

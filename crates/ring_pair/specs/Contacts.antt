@@ -1,4 +1,4 @@
--- How the edges of two rings stand to each other. Definitions only.
+-- SCOPE 24: how the edges of two rings stand to each other. Definitions only.
 use Prim.Native.Nat.{ℕ, _-_}
 use mathlib.Core.Bool.{Bool, true, false}
 use mathlib.Core.List.{List}

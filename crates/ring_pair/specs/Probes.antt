@@ -1,4 +1,4 @@
--- A point of a ring, the probe, that is on no edge of another, the reference: a corner, or where every corner is on one the midpoint of an edge. Definitions only.
+-- SCOPE 24: a point of a ring, the probe, that is on no edge of another, the reference: a corner, or else the midpoint of an edge. Definitions only.
 use Prim.Native.Nat.{ℕ, _+_, _%_}
 use mathlib.Core.Bool.{Bool, false, not}
 use mathlib.Core.List.{List}
@@ -18,7 +18,7 @@ use Rattle.ring_pair.specs.declared.Probe.the-variants.{Nowhere, Corner,
 unfoldable pub freeCorner : List Float → List Float → List Float → ℕ → ℕ → Bool
 freeCorner ps rs rn m i = not (onEdge rs rn m (posAt ps i))
 
--- the midpoint of the probe's edge i, by the stand-in of document 01
+-- the midpoint of the probe's edge i (SCOPE 3)
 unfoldable pub middleAt : List Float → ℕ → ℕ → Point
 middleAt ps n i = midpoint (posAt ps i) (posAt ps ((i + 1) % n))
 
@@ -37,7 +37,7 @@ firstCorner ps n rs rn m = firstAt (freeCorner ps rs rn m) n 0
 unfoldable pub firstMiddle : List Float → ℕ → List Float → List Float → ℕ → ℕ
 firstMiddle ps n rs rn m = firstAt (freeMiddle ps n rs rn m) n 0
 
--- whether a midpoint is asked for: no corner is free. Document 01: "a pair that needed one leaves the domain"
+-- SCOPE 10: whether a midpoint is asked for, as no corner is free; the pair is then outside the domain
 unfoldable pub askedMidpoint : List Float → ℕ → List Float → List Float → ℕ → Bool
 askedMidpoint ps n rs rn m = not (anyOf (freeCorner ps rs rn m) n 0)
 

@@ -1,4 +1,4 @@
--- Whether a place is inside a ring: by the crossings of an arc from a position known to be inside, or, for three corners, by the sides of the edges. Definitions only.
+-- SCOPE 21, 22: whether a place is inside a ring, by the crossings of an arc from an inside, or, for three corners, by the edges' sides. Definitions only.
 use Prim.Native.Nat.{ℕ, _-_}
 use mathlib.Core.Bool.{Bool, true, false, not, _&&_, _||_}
 use mathlib.Core.List.{List}
@@ -35,7 +35,7 @@ tally even first previous = record { even = even; first = first; previous = prev
 abbrev pub start : Crossings
 start = tally true origin origin
 
--- document 01, "Crossings": "The first edge's point is remembered for the last edge only, and not as "previous" for the second"
+-- SCOPE 22: the first edge's point is remembered for the last edge alone, and is no previous point for the second
 unfoldable pub metAt : ℕ → ℕ → Vec3 → Crossings → Crossings
 metAt n i p s =
     if eqb i 0 then tally (not (s .even)) p (s .previous)
@@ -58,7 +58,7 @@ crossedEvenly arc ps ns n = iterate (pass arc ps ns n) n 0 start .even
 unfoldable pub from : Vec3 → Vec3 → Vec3 → Vec3
 from a b p = if antipodes a p then b else a
 
--- "Even is inside": with a cap, and two insides a and b
+-- SCOPE 21: inside by a cap, two insides a and b, and an even number of crossings
 unfoldable pub insideBy : Cap → Vec3 → Vec3 → List Float → List Float → ℕ → Vec3 → Bool
 insideBy cap a b ps ns n p = contains cap p && (same p a || same p b || crossedEvenly (arcOf (from a b p) p) ps ns n)
 
@@ -69,7 +69,7 @@ depth ns i p = neg (dot p (posAt ns i))
 abbrev pub within : List Float → ℕ → Vec3 → Bool
 within ns i p = lt epsilon (depth ns i p)
 
--- three corners: no corner, and right of each edge
+-- SCOPE 21, three corners: no corner, and right of each edge
 unfoldable pub inTriangle : List Float → List Float → Vec3 → Bool
 inTriangle ps ns p = not (hasVertex ps 3 p) && within ns 0 p && within ns 1 p && within ns 2 p
 

@@ -1,4 +1,4 @@
--- The lowest eligible ear of what is left of a ring. Definitions only.
+-- SCOPE 17: the lowest eligible ear of what is left of a ring. Definitions only.
 use Prim.Native.Nat.{ℕ}
 use mathlib.Core.List.{List}
 use lib.ListN.{length}

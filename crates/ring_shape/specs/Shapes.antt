@@ -1,4 +1,4 @@
--- The shape of a ring: convex, simple, and the same as another. Definitions only.
+-- SCOPE 23: the shape of a ring: convex, simple, and the same as another. Definitions only.
 use Prim.Native.Nat.{ℕ, _+_, _-_, _%_}
 use mathlib.Core.Bool.{Bool, true, false, not, _&&_, _||_}
 use mathlib.Core.List.{List}

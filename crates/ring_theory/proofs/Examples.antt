@@ -8,7 +8,7 @@ use Rattle.ring_theory.specs.Cuts.{Cuts, last, cut}
 use Rattle.ring_theory.specs.Demand3.{same, passes, lies, runs, holders, Demand3}
 use Rattle.ring_theory.proofs.Theorem.{demand-3}
 
--- document 01's two lists for four corners
+-- the two lists for four corners in SCOPE 37
 at-first : Cuts (numbers 4) (3 ∷ 0 ∷ 1 ∷ 1 ∷ 2 ∷ 3 ∷ [])
 unfolding flat
 at-first = cut {ids = numbers 4} 0 (omega arith) (omega arith) (last refl)

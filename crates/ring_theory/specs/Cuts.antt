@@ -1,4 +1,4 @@
--- The lists of triples that cut a ring: each but the last is an index's triple, of the ring then left. Definitions only.
+-- SCOPE 20: the lists of triples that cut a ring: each but the last is an index's triple, of the ring then left. Definitions only.
 use Prim.Native.Nat.{ℕ, _<_}
 use mathlib.Core.Path.{_≡_}
 use mathlib.Core.List.{List, _++_}

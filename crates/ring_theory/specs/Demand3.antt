@@ -1,4 +1,4 @@
--- What demand 3 says of the sides of an accepted list of triples. Definitions only.
+-- What demand 3 (SCOPE 20) says of the sides of an accepted list of triples. Definitions only.
 use Prim.Native.Nat.{ℕ, _+_, _-_, _*_, _%_, _<_}
 use mathlib.Core.Path.{_≡_}
 use mathlib.Core.Bool.{_&&_, cond}
@@ -47,13 +47,13 @@ pub record Demand3 (n : ℕ) (tris : List ℕ) : Type 0 where
   -- n - 2 triples of ring numbers
   pub count : length tris ≡ 3 * (n - 2)
   pub within : Below n tris
-  -- "each loop side lies in one triple", which runs it as the loop does
+  -- each side of the loop lies in one triple, which runs it as the loop does
   pub loop-once : (u v : ℕ) → LoopSide n u v → holders u v tris ≡ 1
   pub loop-ahead : (u v : ℕ) → LoopSide n u v → runs u v tris ≡ 1
   pub loop-not-back : (u v : ℕ) → LoopSide n u v → runs v u tris ≡ 0
-  -- "every other side in two, run opposite ways"
+  -- every other side lies in two, which run it opposite ways
   pub inner-twice : (u v : ℕ) → Inner n tris u v → holders u v tris ≡ 2
   pub inner-ahead : (u v : ℕ) → Inner n tris u v → runs u v tris ≡ 1
   pub inner-back : (u v : ℕ) → Inner n tris u v → runs v u tris ≡ 1
-  -- "no two inner sides cross in ring order": of two that cross, a to b and c to d can be so named that a < c < b < d, as `Inner` reads a side either way
+  -- no two inner sides cross in ring order: of two that cross, a to b and c to d can be so named that a < c < b < d, as `Inner` reads a side either way
   pub apart : (a b c d : ℕ) → Inner n tris a b → Inner n tris c d → a < c → c < b → b < d → ⊥

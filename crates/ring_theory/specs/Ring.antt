@@ -26,6 +26,6 @@ next ids i = (i + 1) % length ids
 abbrev pub without {ℓ} : {A : Type ℓ} → ℕ → List A → List A
 without i l = take i l ++ drop (suc i) l
 
--- the triple at index i: previous, this, next
+-- SCOPE 17: the triple at index i, previous, this, next
 abbrev pub earOf : List ℕ → ℕ → List ℕ
 earOf ids i = getD ids (prev ids i) 0 ∷ getD ids i 0 ∷ getD ids (next ids i) 0 ∷ []

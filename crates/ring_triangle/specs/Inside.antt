@@ -1,5 +1,4 @@
--- Whether a position is inside a triangle or on an edge of it. Document 01: "`inside_or_edge`, which answers no for a position equal to a corner and
--- where two of its sides are collinear". Definitions only.
+-- SCOPE 16: whether a position is inside a triangle or on an edge of it: no for a corner, and where two of its sides are collinear. Definitions only.
 use Prim.Native.Nat.{ℕ, _+_}
 use mathlib.Core.Bool.{Bool, true, false, not, _&&_, _||_}
 use lib.Dec.{ltb}

@@ -16,7 +16,7 @@ edgeNormal l n i = orthogonalTo (posAt l i) (posAt l ((i + 1) % n))
 abbrev pub edgeNormals : List Float → ℕ → List Float
 edgeNormals l n = flat (λ i. coords (edgeNormal l n i)) n 0
 
--- the turn from edge i to the next edge, and the sum of all, "from the second edge on, the last turn last"
+-- SCOPE 6: the turn from edge i to the next edge, and the sum of all, the first edge's turn first
 unfoldable pub turnAt : List Float → ℕ → ℕ → Angle
 turnAt l n i = turningAngle (edgeNormal l n i) (edgeNormal l n ((i + 1) % n)) (posAt l ((i + 1) % n))
 

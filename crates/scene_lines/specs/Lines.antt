@@ -1,4 +1,4 @@
--- The text of a scene's lines, as bytes. Document 01, "The scene program". Definitions only.
+-- SCOPE 30: the text of a scene's lines, as bytes. Definitions only.
 use Prim.Native.Nat.{ℕ}
 use mathlib.Core.List.{List, _++_}
 use Rattle.loop_header.specs.declared.Header.{Header}
@@ -11,24 +11,24 @@ use Rattle.scene_lines.specs.declared.Line.the-variants.{Area, Place, Pa
 abbrev pub marksWords : Header → List ℕ
 marksWords h = stateWord (h .state) (mute h) ++ turnedWord (h .reversed) ++ sureWord (h .weak)
 
--- "number, ring count, state, `kept` or `reversed`, `steady` or `weak`, triangle count"
+-- number, count, state, whether reversed, whether weak, how many triangles
 unfoldable pub areaLine : ℕ → Header → ℕ → List ℕ
 areaLine number h triangles =
     bytes "area " ++ decimal number ++ bytes " " ++ decimal (h .count) ++ marksWords h ++ decimal triangles ++ bytes "\n"
 
--- "area, then `inside`, `outside` or `mute`"
+-- the area, and where the place lies
 unfoldable pub placeLine : ℕ → ℕ → List ℕ
 placeLine number answer = bytes "place " ++ decimal number ++ placeWord answer
 
--- "both numbers and the relation"
+-- both areas, and the relation
 unfoldable pub pairLine : ℕ → ℕ → ℕ → List ℕ
 pairLine first second relation = bytes "pair " ++ decimal first ++ bytes " " ++ decimal second ++ relationWord relation
 
--- "`end` and the number of records"
+-- how many records there were
 unfoldable pub endLine : ℕ → List ℕ
 endLine records = bytes "end " ++ decimal records ++ bytes "\n"
 
--- "`refused`, the number, `at`, the record's byte offset"
+-- the refusal's number, and the offset of its record
 unfoldable pub refusedLine : ℕ → ℕ → List ℕ
 refusedLine number offset = bytes "refused " ++ decimal number ++ bytes " at " ++ decimal offset ++ bytes "\n"
 

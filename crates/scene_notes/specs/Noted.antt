@@ -1,4 +1,4 @@
--- What a scene knows between two records, and what the program notes of it. Document 01, "The scene program". Definitions only.
+-- What a scene knows between two records, and what the program notes of it (SCOPE 28, 29). Definitions only.
 use Prim.Native.Nat.{ℕ, _+_, _*_, _≤_, _<_}
 use mathlib.Core.Path.{_≡_}
 use mathlib.Core.Bool.{cond}
@@ -85,7 +85,7 @@ addedNotes c a count = record {
   areas = set (c .areas) (c .met) a;
 }
 
--- whether an area may come in: "area number 0, repeated", "too many areas, positions"
+-- SCOPE 29: whether an area may come in: not with number 0, a number that was met, as the 17th area, or with positions above 1,024 in all
 unfoldable pub judgeArea : List Area → ℕ → ℕ → ℕ → Judged
 judgeArea areas given number count =
     cond (eqb number 0) (Bad NoNumber)

@@ -1,5 +1,4 @@
--- The records of a scene. Document 01: "A record is a u32 body length, a u16 kind, the body; all little-endian. Kind 1: u16 area number,
--- then 24 bytes a position. Kind 2: u16 area number, one position. Kind 3: two u16 area numbers." Definitions only.
+-- SCOPE 28: the records of a scene, each the length of its body (u32), its kind (u16) and the body, little-endian. Definitions only.
 use Prim.Native.Nat.{ℕ, _+_, _*_, _/_, _%_}
 use mathlib.Core.Bool.{cond}
 use mathlib.Core.List.{List}
@@ -21,11 +20,11 @@ u32Of = W.u32Of
 unfoldable pub areaAt : List ℕ → ℕ → ℕ → Read
 areaAt s at len = cond (eqb (len % 24) 2) (Area (u16Of s (at + 6)) (len / 24)) (Bad WrongLength at)
 
--- kind 2
+-- kind 2: two bytes and a position
 unfoldable pub placeAt : List ℕ → ℕ → ℕ → Read
 placeAt s at len = cond (eqb len 26) (Place (u16Of s (at + 6))) (Bad WrongLength at)
 
--- kind 3
+-- kind 3: two numbers
 unfoldable pub pairAt : List ℕ → ℕ → ℕ → Read
 pairAt s at len = cond (eqb len 4) (Pair (u16Of s (at + 6)) (u16Of s (at + 8))) (Bad WrongLength at)
 

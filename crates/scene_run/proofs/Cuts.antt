@@ -1,4 +1,4 @@
--- In a scene cutting refuses with 8 alone, "triangle count (0 where 8 is given)": an area as built is not refused otherwise, and its triangles have room.
+-- In a scene cutting refuses with 8 alone, where 0 triangles are printed: an area as built is not refused otherwise, and its triangles have room.
 -- Assumes nothing.
 use Prim.Native.Nat.{ℕ, zero, suc, _+_, _-_, _*_, _≤_}
 use mathlib.Core.Path.{_≡_, refl, sym, ap, _∙_}

@@ -1,4 +1,4 @@
--- What the scene program writes: ONE function from the input's bytes to the output's. Document 01, "The scene program". Definitions only.
+-- What the scene program writes: ONE function from the input's bytes to the output's (SCOPE 28 to 30). Definitions only.
 use Prim.Native.Nat.{ℕ, zero, suc, _+_, _≤_}
 use mathlib.Core.Bool.{Bool, true, false, cond}
 use mathlib.Core.List.{List, [], _++_}
@@ -15,11 +15,11 @@ use Rattle.scene_steps.specs.declared.Report.the-variants as Report
 use Rattle.scene_notes.specs.Noted.{Scene}
 use Rattle.scene_steps.specs.Steps.{Step, step, Sized, ended, faulty, refused, wrote}
 
--- ---- the text. "Refusal 10: cut short, unknown kind, .." whatever the fault is
+-- ---- the text. SCOPE 29: refusal 10, whatever the fault is
 abbrev pub faultNumber : Fault → ℕ
 faultNumber f = 10
 
--- "The last line is `end` and the number of records, or `refused`, the number, `at`, the record's byte offset, and nothing after"
+-- SCOPE 30: the last line is `end` or `refused`, and nothing comes after it
 abbrev pub textBy : Step → Scene → (Scene → List ℕ) → List ℕ
 textBy ended w rest = endLine (w .records)
 textBy (faulty f) w rest = refusedLine (faultNumber f) (w .at)
@@ -45,7 +45,7 @@ starting ps ns cs = record { at = 0; records = 0; areas = []; given = 0; used = 
 abbrev pub linesOf : List ℕ → List Float → List Float → List ℕ → List ℕ
 linesOf s ps ns cs = linesFrom s (length s + 1) (starting ps ns cs)
 
--- "Too many bytes is judged first, at offset 0, with no line before it"
+-- SCOPE 29: too many bytes is judged first, at offset 0, with no line before it
 unfoldable pub sceneText : List ℕ → List ℕ
 sceneText s = cond (ltb 65536 (length s)) (refusedLine 10 0) (linesOf s blankFloats blankFloats blankCodes)
 

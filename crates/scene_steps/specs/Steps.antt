@@ -1,4 +1,4 @@
--- What one record comes to. Document 01, "The scene program". Definitions only.
+-- What one record comes to (SCOPE 28, 29). Definitions only.
 use Prim.Native.Nat.{ℕ, _+_, _*_, _≤_, _<_}
 use mathlib.Core.Path.{_≡_}
 use mathlib.Core.Bool.{Bool, cond}
@@ -62,7 +62,7 @@ withArea w a count o = record {
   classes = o .classes;
 }
 
--- "each area's ring goes into the still unused rest of one lent store"
+-- SCOPE 28: the ring goes into the still unused rest of one lent store
 abbrev pub areaTold : Scene → ℕ → ℕ → Outcome → B.Told → Step
 areaTold w number count o (B.refused k) = refused k
 areaTold w number count o (B.loop h) = wrote (Line.Area number h (triangleCount (areaAt (w .used) number h) (o .positions) (o .classes))) (withArea w (areaAt (w .used) number h) count o)
@@ -73,7 +73,7 @@ areaOut s w count = builtAt (floatsAt s (w .at + 8) count) (w .used) (w .positio
 unfoldable pub areaMade : List ℕ → Scene → ℕ → ℕ → Step
 areaMade s w number count = areaTold w number count (areaOut s w count) (areaOut s w count .answer)
 
--- refusal 10 "comes before a call's own refusal"
+-- SCOPE 29: refusal 10 comes ahead of a call's own refusal
 abbrev pub areaBy : Judged → List ℕ → Scene → ℕ → ℕ → Step
 areaBy (Bad f) s w number count = faulty f
 areaBy Fine s w number count = areaMade s w number count
@@ -88,7 +88,7 @@ met w number = getD (w .areas) (indexOf (w .areas) number) nobody
 abbrev pub isMet : Scene → ℕ → Bool
 isMet w number = ltb (indexOf (w .areas) number) (length (w .areas))
 
--- ---- kind 2: "not yet met"
+-- ---- kind 2, of an area that was met
 abbrev pub placeTold : Scene → ℕ → Told → Step
 placeTold w number (Ask.refused k) = refused k
 placeTold w number (Ask.answer n) = wrote (Line.Place number n) (passedBy 32 w)
@@ -97,7 +97,7 @@ unfoldable pub placeStep : List ℕ → Scene → ℕ → Step
 placeStep s w number =
     cond (isMet w number) (placeTold w number (placeIn (met w number) (w .positions) (w .normals) (w .classes) (vecOf s (w .at + 8)))) (faulty NotMet)
 
--- ---- kind 3
+-- ---- kind 3, of two areas that were met
 abbrev pub pairTold : Scene → ℕ → ℕ → Told → Step
 pairTold w number other (Ask.refused k) = refused k
 pairTold w number other (Ask.answer n) = wrote (Line.Pair number other n) (passedBy 10 w)

@@ -1,4 +1,4 @@
--- Areas in one lent store. Document 01: "each area's ring goes into the still unused rest of one lent store". Definitions only.
+-- SCOPE 28: areas in one lent store, the ring of each in the rest that was unused. Definitions only.
 use Prim.Native.Nat.{ℕ, _+_, _*_, _≤_}
 use mathlib.Core.Path.{_≡_}
 use mathlib.Core.List.{List, _++_}
@@ -40,7 +40,7 @@ builtAt l used ps ns cs = after used ps ns cs (buildOutcome l (drop (3 * used) p
 unfoldable pub blank : List ℕ
 blank = replicate 1530 0
 
--- "triangle count (0 where 8 is given)"
+-- SCOPE 30: the number of triangles, 0 where 8 is given
 abbrev pub counted : Told → ℕ
 counted (refused k) = 0
 counted (answer n) = n

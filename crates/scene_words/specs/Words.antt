@@ -1,4 +1,4 @@
--- The words and numbers of a scene's lines, as bytes. Document 01, "The scene program". Definitions only.
+-- SCOPE 30: the words and numbers of a scene's lines, as bytes. Definitions only.
 use Prim.Native.Nat.{ℕ, _+_, _/_, _%_}
 use mathlib.Core.Path.{_≡_}
 use mathlib.Core.Bool.{Bool, cond}
@@ -18,7 +18,7 @@ digit n power = cond (ltb n power) [] ((48 + n / power % 10) ∷ [])
 unfoldable pub decimal : ℕ → List ℕ
 decimal n = digit n 10000 ++ digit n 1000 ++ digit n 100 ++ digit n 10 ++ ((48 + n % 10) ∷ [])
 
--- "state (`ring`, `mute`, `empty`, `full`)"
+-- the state of an area, whose ring may be mute
 abbrev pub ringWord : Bool → List ℕ
 ringWord mute = cond mute (bytes " mute") (bytes " ring")
 
@@ -27,18 +27,18 @@ stateWord Empty mute = bytes " empty"
 stateWord Full mute = bytes " full"
 stateWord Ring mute = ringWord mute
 
--- "`kept` or `reversed`, `steady` or `weak`"
+-- the two marks
 abbrev pub turnedWord : Bool → List ℕ
 turnedWord reversed = cond reversed (bytes " reversed") (bytes " kept")
 
 abbrev pub sureWord : Bool → List ℕ
 sureWord weak = cond weak (bytes " weak ") (bytes " steady ")
 
--- "`inside`, `outside` or `mute`", by the answer's number
+-- where a place lies, by the answer's number
 abbrev pub placeWord : ℕ → List ℕ
 placeWord k = cond (eqb k 0) (bytes " outside\n") (cond (eqb k 1) (bytes " inside\n") (bytes " mute\n"))
 
--- "the relation", by its number; from 3 on first
+-- the relation by its number; from 3 on first
 abbrev pub laterWord : ℕ → List ℕ
 laterWord k = cond (eqb k 3) (bytes " containing\n") (cond (eqb k 4) (bytes " within\n") (bytes " equal\n"))
 

@@ -1,4 +1,4 @@
--- The theorem over document 01's "Settled by proof": by computation, with the real root and arctangent. Assumes nothing.
+-- The theorem over the worked examples of SCOPE 37: by computation, with the real root and arctangent. Assumes nothing.
 use mathlib.Core.Path.{_≡_, refl}
 use mathlib.Core.Bool.{true}
 use Rattle.vec3.specs.declared.Vec3.{Vec3}

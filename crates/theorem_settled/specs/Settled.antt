@@ -1,4 +1,4 @@
--- Document 01, "Settled by proof": its whole list as one statement, over the definitions that the contracts cite. Proved in proofs/Theorem.antt. Definitions only.
+-- SCOPE 37: the whole list of worked examples as one statement, over the definitions that the contracts cite. Proved in proofs/Theorem.antt. Definitions only.
 use Prim.Native.Nat.{ℕ, _*_}
 use mathlib.Core.Path.{_≡_}
 use mathlib.Core.Bool.{Bool, true, false}
@@ -107,27 +107,27 @@ abbrev pub related : Header → Header → Answers.Told
 related h o = relateAnswer h [] [] [] o [] [] []
 
 pub record Settled : Type 0 where
-  -- "side (X,Y,Z) left, (X,Z,Y) right, (X,X,Y) collinear"
+  -- the side of (X,Y,Z) is left, of (X,Z,Y) right, of (X,X,Y) collinear
   pub left : sideOf axis-x axis-y axis-z ≡ Left
   pub right : sideOf axis-x axis-z axis-y ≡ Right
   pub collinear : sideOf axis-x axis-x axis-y ≡ Collinear
-  -- "root of 4 is 2, of 2^-1074 is 2^-537"
+  -- the root of 4 is 2, of 2^-1074 is 2^-537
   pub root-4 : rootOf four ≡ two
   pub root-least : rootOf least ≡ root-of-least
-  -- "opening [a] leaves 0, [a,b,c,a] leaves 3, [a,b,c,a,a] leaves 4"
+  -- opening [a] leaves 0, [a,b,c,a] leaves 3, [a,b,c,a,a] leaves 4
   pub openings : (a b c : Vec3) → same (cleared a) (cleared a) ≡ true → Openings a b c
-  -- "area 1's ring is Z, Y, X, all convex"; its line says `3 ring reversed steady`
+  -- the ring of area 1 is Z, Y, X, all convex; its line says `3 ring reversed steady`
   pub area-1-ring : seen (built area-1 3) ≡ record { state = Ring; count = 3; reversed = true; weak = false; corners = coords axis-z ++ coords axis-y ++ coords axis-x; classes = 0 ∷ 0 ∷ 0 ∷ [] }
-  -- "X, (0.6,0.8,0), Y is FULL", its slices as they were
+  -- X, (0.6,0.8,0), Y is FULL, its slices as they were
   pub full : built flat-list 3 ≡ kept (loop (fullHeader false)) (blank 3) (blank 3) (blank-classes 3)
-  -- "(0.6,0,0.8), (0,0.6,0.8), (-0.6,0,0.8), (0,-0.6,0.8) is reversed", and all its corners are convex
+  -- (0.6,0,0.8), (0,0.6,0.8), (-0.6,0,0.8), (0,-0.6,0.8) is reversed, and all its corners are convex
   pub four-ring : seen four-built ≡ record { state = Ring; count = 4; reversed = true; weak = false; corners = coords (at zero minus-six-tenths eight-tenths) ++ coords (at minus-six-tenths zero eight-tenths) ++ coords (at zero six-tenths eight-tenths) ++ coords (at six-tenths zero eight-tenths); classes = 0 ∷ 0 ∷ 0 ∷ 0 ∷ [] }
-  -- "and cut into (3,0,1), (1,2,3)"
+  -- it is cut into (3,0,1), (1,2,3)
   pub four-triangles : four-cut ≡ record { answer = Answers.answer 2; triangles = 3 ∷ 0 ∷ 1 ∷ 1 ∷ 2 ∷ 3 ∷ [] }
-  -- "while the checker also accepts (0,1,2), (0,2,3) and rejects (0,1,3), (1,2,3)"
+  -- the checker accepts that, and also (0,1,2), (0,2,3), but not (0,1,3), (1,2,3)
   pub four-own : four-checked (3 ∷ 0 ∷ 1 ∷ 1 ∷ 2 ∷ 3 ∷ []) ≡ Answers.answer 1
   pub four-also : four-checked (0 ∷ 1 ∷ 2 ∷ 0 ∷ 2 ∷ 3 ∷ []) ≡ Answers.answer 1
   pub four-not : four-checked (0 ∷ 1 ∷ 3 ∷ 1 ∷ 2 ∷ 3 ∷ []) ≡ Answers.answer 0
-  -- "FULL to EMPTY is Containing, EMPTY to FULL is Disjoint"
+  -- FULL to EMPTY is containing, EMPTY to FULL disjoint
   pub containing : related full-one empty-one ≡ Answers.answer 3
   pub disjoint : related empty-one full-one ≡ Answers.answer 0

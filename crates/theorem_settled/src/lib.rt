@@ -1,1 +1,1 @@
-// The worked examples that document 01 has settled by proof: the statement in specs/, the theorem in proofs/. No code: what the other crates' contracts cite is computed.
+// The worked examples of SCOPE 37: the statement in specs/, the theorem in proofs/. No code: what the other crates' contracts cite is computed.

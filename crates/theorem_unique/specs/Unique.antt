@@ -1,5 +1,5 @@
--- Document 01, "How much a contract must say": "for each input, refused ones too, only one answer and one final state of the lent buffers can satisfy it", for each
--- public function by name, its contract written out. Proved in proofs/Theorem.antt. Definitions only.
+-- SCOPE 27: for each input, refused ones too, one answer and one final state of the lent buffers meets the contract: for each public function by name, its
+-- contract written out. Proved in proofs/Theorem.antt. Definitions only.
 use Prim.Native.Nat.{ℕ}
 use mathlib.Core.Path.{_≡_}
 use mathlib.Core.List.{List}
@@ -65,7 +65,7 @@ pub record CutEnd : Type 0 where
 abbrev pub toldEnd : CutEnd → Triangles.Outcome
 toldEnd e = record { answer = toldCut (e .answer); triangles = e .triangles }
 
--- "Any answer that is an enum has a definition": each is one-to-one
+-- SCOPE 27: the definitions of the answers that are enums, each one-to-one
 pub record Definitions : Type 0 where
   pub arc-made : OneToOne Arcs.toldMade
   pub arc-sided : OneToOne Arcs.toldSided

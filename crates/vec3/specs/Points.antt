@@ -1,4 +1,4 @@
--- Points that may be absent. Definitions only.
+-- SCOPE 3: points that may be absent. Definitions only.
 use mathlib.Core.Bool.{_||_}
 use Rattle.numbers.specs.Choice.{if_then_else_}
 use Rattle.numbers.specs.F64.{_⊕_}
@@ -15,6 +15,6 @@ triangleMean a b c = if (antipodes a b || antipodes a c) || antipodes b c then A
 abbrev pub sumUnit : Vec3 → Vec3 → Vec3
 sumUnit a b = unitVec (a .x ⊕ b .x) (a .y ⊕ b .y) (a .z ⊕ b .z)
 
--- document 01: "the unit vector of start plus end stands in (added), with no midpoint where the ends are antipodes or that vector is zero"
+-- SCOPE 3: no midpoint where the ends are antipodes, or where the unit vector of their sum is zero
 unfoldable pub midpoint : Vec3 → Vec3 → Point
 midpoint a b = if antipodes a b || same (sumUnit a b) origin then Absent else At (sumUnit a b)

@@ -1,5 +1,5 @@
--- The vectors' rules. Document 01: "Sums run left to right, x then y then z; every operation rounds once, none is fused"; "each component is
--- stored as 0.0 + v, so -0.0 becomes 0.0; a zero cross product falls to `orthogonal`". Definitions only.
+-- SCOPE 3: the vectors' rules. Sums run left to right, each operation rounds once (SCOPE 1); a component is stored as 0.0 + v, so -0.0 becomes 0.0; a zero
+-- cross product falls to `orthogonal`. Definitions only.
 use Prim.Native.Nat.{ℕ, _+_, _*_}
 use mathlib.Core.Bool.{Bool, _&&_}
 use mathlib.Core.List.{List, [], _∷_}
@@ -106,7 +106,7 @@ antipodes u v = same (plus u v) origin
 abbrev pub mean3 : Vec3 → Vec3 → Vec3 → Vec3
 mean3 u v w = unitVec (zero ⊕ u .x ⊕ v .x ⊕ w .x) (zero ⊕ u .y ⊕ v .y ⊕ w .y) (zero ⊕ u .z ⊕ v .z ⊕ w .z)
 
--- the position numbered i of a list of components. Document 01: "Every position or normal handed in is made free of -0.0"
+-- the position numbered i of a list of components, free of -0.0
 abbrev pub posAt : List Float → ℕ → Vec3
 posAt l i = vec (getD l (3 * i) nan) (getD l (3 * i + 1) nan) (getD l (3 * i + 2) nan)
 

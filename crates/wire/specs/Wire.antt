@@ -1,4 +1,4 @@
--- Little-endian numbers, floats and vectors in bytes. Document 01: "all little-endian"; "Every position or normal handed in is made free of -0.0". Definitions only.
+-- SCOPE 32: little-endian numbers, floats and vectors in bytes; a vector is read free of -0.0 (SCOPE 3). Definitions only.
 use Prim.Native.Nat.{ℕ, _+_, _*_, _/_, _%_}
 use mathlib.Core.List.{List, [], _∷_, _++_}
 use lib.ListN.{length, getD}

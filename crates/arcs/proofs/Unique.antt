@@ -1,6 +1,7 @@
 -- The number and values of an answer tell it from every other, and so a contract leaves one answer (SCOPE 27). Assumes nothing.
 use mathlib.Core.Path.{_≡_, refl, sym, ap, _∙_}
 use Prim.Native.Nat.{zero, suc}
+use lib.IntN.{pos, negsuc}
 use mathlib.Core.List.{[], _∷_}
 use Rattle.arcs.specs.declared.ArcMade.{ArcMade}
 use Rattle.arcs.specs.declared.ArcMade.the-variants as Made
@@ -28,9 +29,9 @@ made-back (Made.Arc a) = refl
 
 abbrev backSided : Told → Sided
 backSided (refused n) = Sided.Refused n
-backSided (answer zero vs) = Sided.Collinear
-backSided (answer (suc zero) vs) = Sided.Left
-backSided (answer (suc (suc n)) vs) = Sided.Right
+backSided (answer (negsuc n) vs) = Sided.Right
+backSided (answer (pos zero) vs) = Sided.Collinear
+backSided (answer (pos (suc n)) vs) = Sided.Left
 
 sided-back : (x : Sided) → backSided (toldSided x) ≡ x
 sided-back (Sided.Refused n) = refl
@@ -40,8 +41,9 @@ sided-back Sided.Right = refl
 
 abbrev backContained : Told → Contained
 backContained (refused n) = Contained.Refused n
-backContained (answer zero vs) = Contained.No
-backContained (answer (suc n) vs) = Contained.Yes
+backContained (answer (negsuc n) vs) = Contained.No
+backContained (answer (pos zero) vs) = Contained.No
+backContained (answer (pos (suc n)) vs) = Contained.Yes
 
 contained-back : (x : Contained) → backContained (toldContained x) ≡ x
 contained-back (Contained.Refused n) = refl
@@ -60,13 +62,14 @@ met-back (Met.At p) = refl
 
 abbrev backRelated : Told → ArcRelated
 backRelated (refused n) = Related.Refused n
-backRelated (answer n []) = Related.Disjoint
-backRelated (answer zero (p ∷ vs)) = Related.Disjoint
-backRelated (answer (suc zero) (p ∷ vs)) = Related.Intersecting p
-backRelated (answer (suc (suc zero)) (p ∷ vs)) = Related.Touching p
-backRelated (answer (suc (suc (suc n))) (a ∷ [])) = Related.Disjoint
-backRelated (answer (suc (suc (suc n))) (a ∷ b ∷ [])) = Related.Disjoint
-backRelated (answer (suc (suc (suc n))) (a ∷ b ∷ c ∷ vs)) = Related.Overlapping (record { start = a; end = b; normal = c })
+backRelated (answer (negsuc n) vs) = Related.Disjoint
+backRelated (answer (pos n) []) = Related.Disjoint
+backRelated (answer (pos zero) (p ∷ vs)) = Related.Disjoint
+backRelated (answer (pos (suc zero)) (p ∷ vs)) = Related.Intersecting p
+backRelated (answer (pos (suc (suc zero))) (p ∷ vs)) = Related.Touching p
+backRelated (answer (pos (suc (suc (suc n)))) (a ∷ [])) = Related.Disjoint
+backRelated (answer (pos (suc (suc (suc n)))) (a ∷ b ∷ [])) = Related.Disjoint
+backRelated (answer (pos (suc (suc (suc n)))) (a ∷ b ∷ c ∷ vs)) = Related.Overlapping (record { start = a; end = b; normal = c })
 
 related-back : (x : ArcRelated) → backRelated (toldRelated x) ≡ x
 related-back (Related.Refused n) = refl

@@ -1,5 +1,6 @@
 -- What the six functions on arcs answer: for each case of an answer its number and values (SCOPE 27). Definitions only.
 use Prim.Native.Nat.{ℕ, zero, suc}
+use lib.IntN.{ℤ, pos}
 use mathlib.Core.Bool.{Bool, true, false}
 use mathlib.Core.List.{List, [], _∷_}
 use Rattle.laws.specs.Loop.{first}
@@ -9,6 +10,7 @@ use Rattle.vec3.specs.declared.Point.the-variants.{Absent, At}
 use Rattle.vec3.specs.Vec.{cleared}
 use Rattle.base.specs.declared.Side.{Side}
 use Rattle.base.specs.declared.Side.the-variants.{Left, Right, Collinear}
+use Rattle.base.specs.Sides.{sideCode}
 use Rattle.judge.specs.Judge.{faultOf, vectorFault}
 use Rattle.minor_arc.specs.declared.MinorArc.{MinorArc}
 use Rattle.arc_relations.specs.declared.MinorArcRelation.{MinorArcRelation}
@@ -29,7 +31,7 @@ use Rattle.arc_relations.specs.Relations.{relationOf}
 -- a refusal's number alone, or an answer's number and the vectors that come with it
 pub data Told : Type 0 where
   refused : ℕ → Told
-  answer : ℕ → List Vec3 → Told
+  answer : ℤ → List Vec3 → Told
 
 abbrev pub vectors : MinorArc → List Vec3
 vectors a = a .start ∷ a .end ∷ a .normal ∷ []
@@ -37,30 +39,30 @@ vectors a = a .start ∷ a .end ∷ a .normal ∷ []
 -- ---- the number and values of each case, a relation's by SCOPE 9
 abbrev pub toldMade : ArcMade → Told
 toldMade (Made.Refused n) = refused n
-toldMade (Made.Arc a) = answer 0 (vectors a)
+toldMade (Made.Arc a) = answer (pos 0) (vectors a)
 
 abbrev pub toldSided : Sided → Told
 toldSided (Sided.Refused n) = refused n
-toldSided Sided.Collinear = answer 0 []
-toldSided Sided.Left = answer 1 []
-toldSided Sided.Right = answer 2 []
+toldSided Sided.Collinear = answer (sideCode Collinear) []
+toldSided Sided.Left = answer (sideCode Left) []
+toldSided Sided.Right = answer (sideCode Right) []
 
 abbrev pub toldContained : Contained → Told
 toldContained (Contained.Refused n) = refused n
-toldContained Contained.No = answer 0 []
-toldContained Contained.Yes = answer 1 []
+toldContained Contained.No = answer (pos 0) []
+toldContained Contained.Yes = answer (pos 1) []
 
 abbrev pub toldMet : Met → Told
 toldMet (Met.Refused n) = refused n
-toldMet Met.Nowhere = answer 0 []
-toldMet (Met.At p) = answer 1 (p ∷ [])
+toldMet Met.Nowhere = answer (pos 0) []
+toldMet (Met.At p) = answer (pos 1) (p ∷ [])
 
 abbrev pub toldRelated : ArcRelated → Told
 toldRelated (Related.Refused n) = refused n
-toldRelated Related.Disjoint = answer 0 []
-toldRelated (Related.Intersecting p) = answer 1 (p ∷ [])
-toldRelated (Related.Touching p) = answer 2 (p ∷ [])
-toldRelated (Related.Overlapping a) = answer 3 (vectors a)
+toldRelated Related.Disjoint = answer (pos 0) []
+toldRelated (Related.Intersecting p) = answer (pos 1) (p ∷ [])
+toldRelated (Related.Touching p) = answer (pos 2) (p ∷ [])
+toldRelated (Related.Overlapping a) = answer (pos 3) (vectors a)
 
 -- ---- what is handed in. SCOPE 3: free of -0.0
 abbrev pub clearedArc : MinorArc → MinorArc
@@ -82,29 +84,29 @@ judged zero t = t
 judged (suc k) t = refused (suc k)
 
 abbrev pub sideTold : Side → Told
-sideTold Collinear = answer 0 []
-sideTold Left = answer 1 []
-sideTold Right = answer 2 []
+sideTold Collinear = answer (sideCode Collinear) []
+sideTold Left = answer (sideCode Left) []
+sideTold Right = answer (sideCode Right) []
 
 abbrev pub boolTold : Bool → Told
-boolTold false = answer 0 []
-boolTold true = answer 1 []
+boolTold false = answer (pos 0) []
+boolTold true = answer (pos 1) []
 
 abbrev pub pointTold : Point → Told
-pointTold Absent = answer 0 []
-pointTold (At p) = answer 1 (p ∷ [])
+pointTold Absent = answer (pos 0) []
+pointTold (At p) = answer (pos 1) (p ∷ [])
 
 abbrev pub relationTold : MinorArcRelation → Told
-relationTold Disjoint = answer 0 []
-relationTold (Intersecting p) = answer 1 (p ∷ [])
-relationTold (Touching p) = answer 2 (p ∷ [])
-relationTold (Overlapping a) = answer 3 (vectors a)
+relationTold Disjoint = answer (pos 0) []
+relationTold (Intersecting p) = answer (pos 1) (p ∷ [])
+relationTold (Touching p) = answer (pos 2) (p ∷ [])
+relationTold (Overlapping a) = answer (pos 3) (vectors a)
 
 unfoldable pub newTold : Vec3 → Vec3 → Told
-newTold s e = judged (first (faultOf s) (faultOf e)) (answer 0 (vectors (arcOf s e)))
+newTold s e = judged (first (faultOf s) (faultOf e)) (answer (pos 0) (vectors (arcOf s e)))
 
 unfoldable pub oppositeTold : MinorArc → Told
-oppositeTold a = judged (arcFault a) (answer 0 (vectors (reversed a)))
+oppositeTold a = judged (arcFault a) (answer (pos 0) (vectors (reversed a)))
 
 unfoldable pub sideOfTold : MinorArc → Vec3 → Told
 sideOfTold a p = judged (queryFault a p) (sideTold (arcSide a p))

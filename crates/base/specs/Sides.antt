@@ -1,5 +1,6 @@
 -- SCOPE 5: the side of v0 against the great circle from v1 to v2, by the sign of t = v0·(v1 × v2); where |t| is at most 10·2^-52, that limit included, by
 -- v0·`orthogonal_to`(v1, v2). Above 0 is left. Definitions only.
+use lib.IntN.{ℤ, pos, negsuc}
 use mathlib.Core.Bool.{Bool, not, _&&_}
 use lib.Ieee.{Float, lt, le}
 use Rattle.numbers.specs.Choice.{if_then_else_}
@@ -9,6 +10,12 @@ use Rattle.vec3.specs.declared.Vec3.{Vec3}
 use Rattle.vec3.specs.Vec.{dot, cross, orthogonalTo}
 use Rattle.base.specs.declared.Side.{Side}
 use Rattle.base.specs.declared.Side.the-variants.{Left, Right, Collinear}
+
+-- SCOPE 5, codes: -1 right, 0 collinear, 1 left
+abbrev pub sideCode : Side → ℤ
+sideCode Right = negsuc 0
+sideCode Collinear = pos 0
+sideCode Left = pos 1
 
 unfoldable pub signOf : Float → Side
 signOf t = if lt zero t then Left else Right

@@ -3,6 +3,7 @@ use Prim.Native.Nat.{ℕ, _*_, _≤_, _<_}
 use mathlib.Core.Path.{_≡_, sym, _∙_}
 use mathlib.Core.List.{List, [], _∷_, append-assoc, append-nil}
 use native.Mathlib.Omega.{arith}
+use lib.IntN.{pos}
 use lib.ListN.{length}
 use lib.Seq.{sets}
 use borrow.Author.Tests.{lt-ltb, le-ltb}
@@ -27,11 +28,11 @@ three-written out a b c p q r = rw (append-nil, ← append-assoc (vecBytes a) (v
 
 -- ---- room, or refusal 5
 module _ (n : ℕ) (vs : List Vec3) (out : List ℕ) where
-  pub no-room : {r : ℕ} → length out < 24 * length vs → r ≡ refusalOf 5 → outcome r out ≡ leave (answer n vs) out
+  pub no-room : {r : ℕ} → length out < 24 * length vs → r ≡ refusalOf 5 → outcome r out ≡ leave (answer (pos n) vs) out
   unfolding leave
   no-room h e = rw (lt-ltb _ _ h, e)
 
-  pub room : {z : List ℕ} → 24 * length vs ≤ length out → z ≡ sets out 0 (valueBytes vs) → outcome n z ≡ leave (answer n vs) out
+  pub room : {z : List ℕ} → 24 * length vs ≤ length out → z ≡ sets out 0 (valueBytes vs) → outcome n z ≡ leave (answer (pos n) vs) out
   unfolding leave
   room h e = rw (le-ltb _ _ h, e)
 

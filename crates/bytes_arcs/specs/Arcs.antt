@@ -11,7 +11,7 @@ use Rattle.vec3.specs.declared.Vec3.{Vec3}
 use Rattle.wire.specs.Wire.{vecOf, vecBytes}
 use Rattle.minor_arc.specs.declared.MinorArc.{MinorArc}
 use Rattle.arcs.specs.Answers.{Told, refused, answer, judged, arcFault, newAnswer, oppositeAnswer, sideAnswer, containsAnswer, intersectionAnswer, relateAnswer}
-use Rattle.bytes_loop.specs.Outcome.{Outcome, outcome, refusalOf}
+use Rattle.bytes_loop.specs.Outcome.{Outcome, outcome, refusalOf, unsigned}
 use Rattle.bytes_loop.specs.Layout.{sizeFault}
 
 abbrev pub arcAt : List ℕ → MinorArc
@@ -49,7 +49,7 @@ relateTold a b = judged (nextJudged a b 72) (relateAnswer (arcAt a) (arcAt b))
 -- ---- what is answered and written (SCOPE 33)
 abbrev pub numberOf : Told → ℕ
 numberOf (refused f) = refusalOf f
-numberOf (answer n vs) = n
+numberOf (answer code vs) = unsigned code
 
 abbrev pub valueBytes : List Vec3 → List ℕ
 valueBytes [] = []
@@ -57,4 +57,4 @@ valueBytes (v ∷ vs) = vecBytes v ++ valueBytes vs
 
 unfoldable pub leave : Told → List ℕ → Outcome ℕ
 leave (refused f) out = outcome (refusalOf f) out
-leave (answer n vs) out = if ltb (length out) (24 * length vs) then outcome (refusalOf 5) out else outcome n (sets out 0 (valueBytes vs))
+leave (answer code vs) out = if ltb (length out) (24 * length vs) then outcome (refusalOf 5) out else outcome (unsigned code) (sets out 0 (valueBytes vs))

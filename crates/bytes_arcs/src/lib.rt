@@ -2,6 +2,7 @@
 ghost use mathlib.Core.Path.{_≡_};
 ghost use mathlib.Core.List.{[], _∷_};
 ghost use Prim.Native.Nat.{_≤_};
+ghost use lib.IntN.{pos};
 ghost use lib.ListN.{length};
 ghost use Rattle.arcs.specs.Answers as Answers;
 ghost use Rattle.bytes_loop.specs.Outcome.{outcome};
@@ -56,7 +57,7 @@ fn ends_judged(start: &[u8], end: &[u8]) -> u8
     judge::first(size_fault(start, 24), size_fault(end, 24))
 }
 
-// What an answer without values comes to.
+// What an answer without values comes to; a side's code has no sign here.
 fn sided(s: Sided) -> u32
     ensures { λ r. ⌜ r ≡ Arcs.numberOf (Answers.toldSided s) ⌝ }
 {
@@ -80,7 +81,7 @@ fn held(c: Contained) -> u32
 
 // A position or an arc written for an answer, or refusal 5 where there is no room for it.
 fn leave_point(out: &mut [u8], number: u32, p: Vec3) -> u32
-    ensures { λ r. ⌜ outcome r (now (out .exit)) ≡ Arcs.leave (Answers.answer number (p ∷ [])) (now (out .entry)) ⌝ }
+    ensures { λ r. ⌜ outcome r (now (out .exit)) ≡ Arcs.leave (Answers.answer (pos number) (p ∷ [])) (now (out .entry)) ⌝ }
 {
     if out.len() < 24 {
         return refusal(5);
@@ -90,7 +91,7 @@ fn leave_point(out: &mut [u8], number: u32, p: Vec3) -> u32
 }
 
 fn leave_arc(out: &mut [u8], number: u32, a: MinorArc) -> u32
-    ensures { λ r. ⌜ outcome r (now (out .exit)) ≡ Arcs.leave (Answers.answer number (Answers.vectors a)) (now (out .entry)) ⌝ }
+    ensures { λ r. ⌜ outcome r (now (out .exit)) ≡ Arcs.leave (Answers.answer (pos number) (Answers.vectors a)) (now (out .entry)) ⌝ }
 {
     if out.len() < 72 {
         return refusal(5);

@@ -1,25 +1,43 @@
 -- Each named wrong program is refuted by computing the definition at its input. Assumes nothing.
 use Prim.Native.Nat.{ℕ, _+_}
 use native.Mathlib.Omega.{arith}
-use mathlib.Core.Path.{_≡_, refl, ap}
+use mathlib.Core.Path.{_≡_, refl, sym, ap, _∙_, subst}
 use mathlib.Core.Bool.{Bool, true, false}
-use lib.ListN.{getD}
-use lib.Ieee.{binary64, toBits}
+use mathlib.Core.List.{List, [], _∷_}
+use lib.ListN.{getD, replicate}
+use lib.Ieee.{Float, binary64, toBits, nan}
+use Rattle.numbers.specs.F64.{zero}
 use Rattle.vec3.specs.declared.Insides.{Insides}
 use Rattle.vec3.specs.declared.Insides.the-variants.{Absent, Two}
+use Rattle.vec3.specs.declared.Point.{Point}
+use Rattle.vec3.specs.declared.Point.the-variants as Points
+use Rattle.vec3.specs.Vec.{axis-x, axis-y, axis-z}
+use Rattle.vec3.specs.Points.{midpoint}
 use Rattle.base.specs.declared.Side.{Side}
 use Rattle.base.specs.declared.Side.the-variants.{Left, Right, Collinear}
 use Rattle.judge.specs.Judge.{vectorFault, faultOf}
+use Rattle.ring_turns.specs.Turns.{edgeNormals}
 use Rattle.loop_header.specs.Loops.{stateCode}
 use Rattle.loop_build.specs.Build as Build
 use Rattle.loop_ask.specs.Answers as Answers
+use Rattle.loop_ask.specs.Questions.{placeAnswer}
+use Rattle.loop_triangles.specs.Triangles.{triangulateOutcome}
+use Rattle.loop_relate.specs.Relations.{relateAnswer}
+use Rattle.theorem_settled.specs.Settled.{at, built, blank, blank-classes, area-1, four-corners, four-built, four-checked, full-one, empty-one, related}
 use Rattle.theorem_settled.proofs.Computing as Computing
-use Rattle.theorem_wrongs.specs.Wrongs.{EmptyPrograms, Traps, OfNumbers, OfBuilding, OfAsking, OfCutting, OfRelating, Wrongs}
+use Rattle.theorem_wrongs.proofs.Computing.{of-places, of-pairs}
+use Rattle.theorem_wrongs.proofs.Rings.{ring, area-1-built, area-2-built, across-built, in-the-other-built, in-the-one-built, one-mean-built, repeated-built, four-corners-built, five-positions-built, to-and-fro-built}
+use Rattle.theorem_wrongs.specs.Wrongs.{in-area-1, to-and-fro, header, placed, cutFrom, cutInto, checked, pair, toFull, classesBySide, cuttingAfresh, cutAfresh}
+use Rattle.theorem_wrongs.specs.Wrongs.{OutsideAlways, DisjointAlways, BlankRing, Fan, EmptyPrograms, Traps, OfNumbers, OfBuilding, OfAsking, OfCutting, OfRelating, Wrongs}
 
 -- what tells two values apart
 abbrev told : Answers.Told → ℕ
 told (Answers.refused k) = 100 + k
 told (Answers.answer n) = n
+
+abbrev answered : Answers.Told → ℕ
+answered (Answers.refused k) = 0
+answered (Answers.answer n) = 1
 
 abbrev built-as : Build.Told → ℕ
 built-as (Build.refused k) = 0
@@ -38,77 +56,163 @@ abbrev inner : Insides → ℕ
 inner Absent = 0
 inner (Two a b) = 1
 
+abbrev there : Point → ℕ
+there Points.Absent = 0
+there (Points.At p) = 1
+
+-- the bits of the float numbered i
+abbrev bits : List Float → ℕ → ℕ
+bits l i = toBits binary64 (getD l i zero)
+
 below : (m n k : ℕ) → m + k + 1 ≡ n → m ≡ n → ⊥
 below m n k d e = omega (arith, d, e)
 
 above : (m n k : ℕ) → n + k + 1 ≡ m → m ≡ n → ⊥
 above m n k d e = omega (arith, d, e)
 
+-- what is said of a ring as built, of the ring that was computed once
+of-ring : {o p : Build.Outcome} → o ≡ p → (B : Build.Outcome → Type 0) → B o → B p
+of-ring q B b = subst B q b
+
+outside-always : OutsideAlways
+unfolding of-places
+outside-always = record {
+  in-a-triangle = λ e. above 1 0 0 refl (ap told (of-ring area-1-built (λ o. placed o in-area-1 ≡ Answers.answer 0) e));
+  in-a-ring = λ e. above 1 0 0 refl (ap told (of-ring four-corners-built (λ o. placed o axis-z ≡ Answers.answer 0) e));
+  in-the-full-loop = λ e. above 1 0 0 refl (ap told e);
+  of-a-mute-loop = λ e. above 2 0 1 refl (ap told (of-ring one-mean-built (λ o. placed o axis-y ≡ Answers.answer 0) e));
+}
+
+of-two : {o p x y : Build.Outcome} → o ≡ p → x ≡ y → (t : Answers.Told) → pair o x ≡ t → pair p y ≡ t
+of-two {o} {p} {x} {y} q r t e = of-ring r (λ z. pair p z ≡ t) (of-ring q (λ z. pair z x ≡ t) e)
+
+-- area 1 to the full loop is Within, and the full loop to the empty one Containing
+to-full : told (toFull (built area-1 3)) ≡ 4
+unfolding of-pairs
+to-full = of-ring (sym area-1-built) (λ o. told (toFull o) ≡ 4) refl
+
+full-to-empty : related full-one empty-one ≡ Answers.answer 3
+unfolding Computing.of-relating
+full-to-empty = refl
+
+disjoint-always : DisjointAlways
+unfolding of-pairs
+disjoint-always = record {
+  touching = λ e. above 1 0 0 refl (ap told (of-two area-1-built area-2-built (Answers.answer 0) e));
+  intersecting = λ e. above 2 0 1 refl (ap told (of-two area-1-built across-built (Answers.answer 0) e));
+  containing = λ e. above 3 0 2 refl (ap told (sym full-to-empty ∙ e));
+  within = λ e. above 4 0 3 refl (sym to-full ∙ ap told e);
+  equal = λ e. above 5 0 4 refl (ap told (of-two area-1-built area-1-built (Answers.answer 0) e));
+}
+
+-- area 1's first corner is Z, the normal of its first edge -X, its first class convex
+blank-ring : BlankRing
+unfolding Computing.of-building toBits
+blank-ring = record {
+  positions = λ e. above 0x3ff0_0000_0000_0000 0 0x3fef_ffff_ffff_ffff refl (ap (λ l. bits l 2) (of-ring area-1-built (λ o. o .positions ≡ blank 3) e));
+  normals = λ e. above 0xbff0_0000_0000_0000 0 0xbfef_ffff_ffff_ffff refl (ap (λ l. bits l 0) (of-ring area-1-built (λ o. o .normals ≡ blank 3) e));
+  classes = λ e. below 0 2 1 refl (ap (λ l. getD l 0 9) (of-ring area-1-built (λ o. o .classes ≡ blank-classes 3) e));
+}
+
+-- the second triple tells the lists apart: the cutter's begins with 2
+second-cut : getD (cutInto (built to-and-fro 5) (replicate 9 0)) 3 9 ≡ 2
+unfolding Computing.of-cutting
+second-cut = of-ring (sym to-and-fro-built) (λ o. getD (cutInto o (replicate 9 0)) 3 9 ≡ 2) refl
+
+fan : Fan
+unfolding Computing.of-checking
+fan = record {
+  cut-from-first = λ e. above 2 0 1 refl (sym second-cut ∙ ap (λ l. getD l 3 9) e);
+  cut-at-first = λ e. below 2 4 1 refl (sym second-cut ∙ ap (λ l. getD l 3 9) e);
+  accepted-from-first = λ e. below 0 1 0 refl (ap told (of-ring to-and-fro-built (λ o. checked o (0 ∷ 1 ∷ 2 ∷ 0 ∷ 2 ∷ 3 ∷ 0 ∷ 3 ∷ 4 ∷ []) ≡ Answers.answer 1) e));
+  accepted-at-first = λ e. below 0 1 0 refl (ap told (of-ring to-and-fro-built (λ o. checked o (0 ∷ 1 ∷ 2 ∷ 4 ∷ 0 ∷ 2 ∷ 2 ∷ 3 ∷ 4 ∷ []) ≡ Answers.answer 1) e));
+}
+
+-- four corners are cut into two triangles, of which the first is (3,0,1)
+two-triangles : told (cutFrom four-built (replicate 6 0)) ≡ 2
+unfolding Computing.of-cutting
+two-triangles = of-ring (sym four-corners-built) (λ o. told (cutFrom o (replicate 6 0)) ≡ 2) refl
+
 empty-programs : EmptyPrograms
-unfolding Computing.of-asking Computing.of-cutting Computing.of-relating
 empty-programs = record {
-  refuses-each-list = λ k e. above 1 0 0 refl (ap built-as e);
-  outside-always = λ e. above 1 0 0 refl (ap told e);
-  disjoint-always = λ e. above 3 0 2 refl (ap told e);
-  blank-ring = λ e. below 0 2 1 refl (ap (λ l. getD l 0 9) e);
-  fan = λ e. above 3 0 2 refl (ap (λ l. getD l 0 9) e);
-  made-up-count = λ e. below 2 3 0 refl (ap told e);
+  refuses-each-list = λ k e. above 1 0 0 refl (ap built-as (of-ring area-1-built (λ o. o .answer ≡ Build.refused k) e));
+  outside-always = outside-always;
+  disjoint-always = disjoint-always;
+  blank-ring = blank-ring;
+  fan = fan;
+  made-up-count = λ k other e. other (sym (ap told e) ∙ two-triangles);
 }
 
 traps : Traps
-unfolding Computing.of-asking Computing.of-checking
+unfolding Computing.of-asking Computing.of-checking cuttingAfresh
 traps = record {
-  every-vertex-afresh = λ e. below 3 108 104 refl (ap told e);
-  first-by-side = λ e. above 1 0 0 refl (ap (λ l. getD l 1 9) e);
+  every-vertex-afresh = λ e. below 3 108 104 refl (ap told (of-ring five-positions-built (λ o. cutFrom o (replicate 9 0) ≡ cutAfresh o 5) e));
+  first-by-side = λ e. above 1 0 0 refl (ap (λ l. getD l 1 9) (of-ring repeated-built (λ o. o .classes ≡ classesBySide (o .positions) 4) e));
   strict-side = λ e. above 2 0 1 refl (ap side e);
-  corner-inside = λ e. below 0 1 0 refl (ap told e);
-  by-position = λ e. below 0 1 0 refl (ap told e);
+  corner-inside = λ e. below 0 1 0 refl (ap told (of-ring area-1-built (λ o. placed o axis-x ≡ Answers.answer 1) e));
+  by-position = λ e. below 0 1 0 refl (ap told (of-ring repeated-built (λ o. checked o (3 ∷ 0 ∷ 2 ∷ 1 ∷ 2 ∷ 3 ∷ []) ≡ Answers.answer 1) e));
 }
 
 of-numbers : OfNumbers
-unfolding Computing.of-sides faultOf vectorFault toBits
+unfolding Computing.of-sides faultOf vectorFault midpoint toBits
 of-numbers = record {
   side-turned = λ e. below 0 1 0 refl (ap side e);
   strict-equality = λ e. above 1 0 0 refl (ap sure e);
   root-cut-off = λ e. above 0x3ff6_a09e_667f_3bcd 0x3ff6_a09e_667f_3bcc 0 refl (ap (toBits binary64) e);
   upper-end-left-out = λ e. below 0 4 3 refl e;
   last-component-passed-over = λ e. above 3 0 2 refl e;
+  midpoint-of-antipodes = λ p e. below 0 1 0 refl (ap there e);
+  midpoint-without-length = λ p e. below 0 1 0 refl (ap there e);
 }
 
+-- the normal of the edge from Y to Y is Z, and worked out again -Z
 of-building : OfBuilding
-unfolding Computing.of-building Computing.of-caps
+unfolding Computing.of-building Computing.of-caps toBits
 of-building = record {
   room-for-two = λ e. above 1 0 0 refl (ap built-as e);
+  room-by-the-list = λ e. above 1 0 0 refl (ap built-as e);
+  two-closing-positions = λ e. above 4 3 0 refl e;
   flat-empty = λ e. above 1 0 0 refl (ap stateCode e);
-  ring-kept = λ e. above 1 0 0 refl (ap sure e);
-  triangle-with-insides = λ a b e. below 0 1 0 refl (ap inner e);
+  ring-kept = λ e. above 1 0 0 refl (ap sure (of-ring four-corners-built (λ o. header o .reversed ≡ false) e));
+  normals-worked-out-again = λ e. below 0x3ff0_0000_0000_0000 0xbff0_0000_0000_0000 0x7fff_ffff_ffff_ffff refl (ap (λ l. bits l 5) (of-ring repeated-built (λ o. o .normals ≡ edgeNormals (o .positions) 4) e));
+  triangle-with-insides = λ a b e. below 0 1 0 refl (ap inner (of-ring area-1-built (λ o. header o .insides ≡ Two a b) e));
 }
 
 of-asking : OfAsking
 unfolding Computing.of-asking
 of-asking = record {
-  full-is-outside = λ e. above 1 0 0 refl (ap told e);
-  query-before-loop = λ e. below 101 103 1 refl (ap told e);
+  query-before-loop = λ e. below 101 103 1 refl (ap told (of-ring four-corners-built (λ o. placeAnswer (header o) [] [] [] (at nan zero zero) ≡ Answers.refused 3) e));
 }
+
+-- what the checker says of a list for the four corners
+four-no : (triples : List ℕ) → told (checked (ring four-corners 4 true (0 ∷ 0 ∷ 0 ∷ 0 ∷ [])) triples) ≡ 0 → four-checked triples ≡ Answers.answer 1 → ⊥
+four-no triples refuted e = below 0 1 0 refl (sym refuted ∙ ap told (of-ring four-corners-built (λ o. checked o triples ≡ Answers.answer 1) e))
 
 of-cutting : OfCutting
 unfolding Computing.of-checking
 of-cutting = record {
-  class-of-three = λ e. above 106 1 104 refl (ap told e);
-  room-for-one-less = λ e. above 105 2 102 refl (ap told e);
-  rotated = λ e. below 0 1 0 refl (ap told e);
-  one-neighbour = λ e. below 0 1 0 refl (ap told e);
-  triple-too-many = λ e. below 0 1 0 refl (ap told e);
-  any-corner = λ e. below 0 1 0 refl (ap told e);
+  fan-of-all = λ e. above 3 0 2 refl (ap (λ l. getD l 0 9) (of-ring four-corners-built (λ o. cutInto o (replicate 6 0) ≡ 0 ∷ 1 ∷ 2 ∷ 0 ∷ 2 ∷ 3 ∷ []) e));
+  class-of-three = λ e. above 106 1 104 refl (ap told (of-ring area-1-built (λ o. triangulateOutcome (header o) (o .positions) (3 ∷ 0 ∷ 0 ∷ []) (replicate 3 0) .answer ≡ Answers.answer 1) e));
+  room-for-one-less = λ e. above 105 2 102 refl (ap told (of-ring four-corners-built (λ o. cutFrom o (replicate 5 0) ≡ Answers.answer 2) e));
+  rotated = four-no (0 ∷ 1 ∷ 3 ∷ 1 ∷ 2 ∷ 3 ∷ []) refl;
+  one-neighbour = four-no (3 ∷ 0 ∷ 2 ∷ 1 ∷ 2 ∷ 3 ∷ []) refl;
+  triple-too-many = four-no (3 ∷ 0 ∷ 1 ∷ 1 ∷ 2 ∷ 3 ∷ 1 ∷ 2 ∷ 3 ∷ []) refl;
+  any-corner = λ e. below 0 1 0 refl (ap told (of-ring five-positions-built (λ o. checked o (0 ∷ 1 ∷ 2 ∷ 0 ∷ 2 ∷ 3 ∷ 0 ∷ 3 ∷ 4 ∷ []) ≡ Answers.answer 1) e));
 }
 
+-- a loop whose slices are gone, to area 1 with a class of 3
+abbrev beside-area-1 : Build.Outcome → Answers.Told
+beside-area-1 o = relateAnswer (header o) [] [] [] (header (built area-1 3)) (built area-1 3 .positions) (built area-1 3 .normals) (3 ∷ 0 ∷ 0 ∷ [])
+
 of-relating : OfRelating
-unfolding Computing.of-relating
+unfolding of-pairs
 of-relating = record {
-  within-for-containing = λ e. below 3 4 0 refl (ap told e);
-  full-equals-empty = λ e. below 3 5 1 refl (ap told e);
+  full-within-empty = λ e. below 3 4 0 refl (ap told (sym full-to-empty ∙ e));
+  full-equals-empty = λ e. below 3 5 1 refl (ap told (sym full-to-empty ∙ e));
   empty-within = λ e. below 0 4 3 refl (ap told e);
-  second-loop-first = λ e. below 101 106 4 refl (ap told e);
+  containing-for-within = λ e. above 4 3 0 refl (sym to-full ∙ ap told e);
+  no-seven = λ n e. below 0 1 0 refl (ap answered (of-two in-the-other-built in-the-one-built (Answers.answer n) e));
+  second-loop-first = λ e. below 101 106 4 refl (ap told (of-ring four-corners-built (λ o. beside-area-1 o ≡ Answers.refused 6) e));
 }
 
 pub wrongs : Wrongs

@@ -1,40 +1,71 @@
 -- Named wrong programs: each gives, at one input, an answer that no program which meets the contract can give, since the definition that the contract
--- cites has another answer there. Proved in proofs/Theorem.antt. Definitions only.
-use Prim.Native.Nat.{ℕ}
+-- cites has another answer there. docs/SCOPE.md, "Wrong programs", names the five empty programs and the traps. Proved in proofs/Theorem.antt. Definitions only.
+use Prim.Native.Nat.{ℕ, zero, suc, _+_, _-_, _%_}
 use mathlib.Core.Path.{_≡_}
-use mathlib.Core.Bool.{false}
+use mathlib.Core.Bool.{false, not, cond}
 use mathlib.Core.List.{List, [], _∷_, _++_}
-use lib.ListN.{replicate}
+use lib.Dec.{ltb}
+use lib.ListN.{length, replicate}
 use lib.Ieee.{Float, binary64, ofBits, nan}
-use Rattle.numbers.specs.F64.{zero, two, epsilon}
+use Rattle.laws.specs.Loop.{iterate, flat}
+use Rattle.numbers.specs.F64 as F64
+use Rattle.numbers.specs.F64.{two, epsilon}
 use Rattle.numbers.specs.Near.{near}
 use Rattle.root.specs.Root.{rootOf}
 use Rattle.vec3.specs.declared.Vec3.{Vec3}
 use Rattle.vec3.specs.declared.Insides.the-variants.{Two}
-use Rattle.vec3.specs.Vec.{axis-x, axis-y, axis-z, coords}
+use Rattle.vec3.specs.declared.Point.the-variants.{At}
+use Rattle.vec3.specs.Vec.{axis-x, axis-y, axis-z, opposite, posAt, coords}
+use Rattle.vec3.specs.Points.{midpoint}
 use Rattle.base.specs.declared.Side.the-variants.{Left, Right}
 use Rattle.base.specs.Sides.{sideOf}
 use Rattle.judge.specs.Judge.{vectorFault, faultOf}
+use Rattle.ring_theory.specs.Ring.{without, earOf}
+use Rattle.ring_turns.specs.Turns.{edgeNormals}
+use Rattle.ring_ears.specs.Ears.{classOf, reclassify, Remaining}
+use Rattle.ring_cut.specs.Cut.{Cutting, ahead, atEar, lowestOf, wholeRing}
 use Rattle.loop_header.specs.declared.Header.{Header}
 use Rattle.loop_header.specs.declared.State.the-variants.{Empty}
 use Rattle.loop_build.specs.Build as Build
 use Rattle.loop_ask.specs.Answers.{Told, refused, answer}
 use Rattle.loop_ask.specs.Questions.{placeAnswer}
-use Rattle.loop_triangles.specs.Triangles.{triangulateOutcome, acceptsAnswer}
+use Rattle.loop_triangles.specs.Triangles.{cutTold, triangulateOutcome, acceptsAnswer}
 use Rattle.loop_relate.specs.Relations.{relateAnswer}
-use Rattle.theorem_settled.specs.Settled.{six-tenths, eight-tenths, at, built, area-1, flat-list, headerOf, four-built, four-cut, four-checked, full-one, empty-one, related}
+use Rattle.theorem_settled.specs.Settled.{six-tenths, eight-tenths, minus-six-tenths, at, built, blank, blank-classes, area-1, flat-list, headerOf, four-built, four-cut, four-checked, full-one, empty-one, related}
 
 -- ---- the inputs
--- document 01's place in area 1: (0.48, 0.6, 0.64)
+-- the worked example's place in area 1: (0.48, 0.6, 0.64)
 abbrev pub in-area-1 : Vec3
 in-area-1 = at (ofBits binary64 0x3fde_b851_eb85_1eb8) (ofBits binary64 0x3fe3_3333_3333_3333) (ofBits binary64 0x3fe4_7ae1_47ae_147b)
 
--- 10.0, and 1 + 2^-41, whose square is 1 + 2^-40 when rounded
+-- 10.0; 1 + 2^-41, whose square is 1 + 2^-40 when rounded; and 2^-600, whose square is 0 when rounded
 abbrev pub ten : Float
 ten = ofBits binary64 0x4024_0000_0000_0000
 
 abbrev pub just-within : Float
 just-within = ofBits binary64 0x3ff0_0000_0000_0800
+
+abbrev pub tiny : Float
+tiny = ofBits binary64 0x1a70_0000_0000_0000
+
+-- the worked example's area 2, which has the edge from X to Y with area 1: X, Y, -Z
+abbrev pub area-2 : List Float
+area-2 = coords axis-x ++ coords axis-y ++ coords (opposite axis-z)
+
+-- its first edge crosses the first of area 1's ring
+abbrev pub across : List Float
+across = coords (at six-tenths F64.zero eight-tenths) ++ coords (at minus-six-tenths eight-tenths F64.zero) ++ coords axis-x
+
+-- two rings whose edges do not cross and of which each has a corner in the other: (-0.8, 0, -0.6), X, (0.64, -0.48, 0.6) and -Y, Z, X
+abbrev pub in-the-other : List Float
+in-the-other = coords (at (ofBits binary64 0xbfe9_9999_9999_999a) F64.zero minus-six-tenths) ++ coords axis-x ++ coords (at (ofBits binary64 0x3fe4_7ae1_47ae_147b) (ofBits binary64 0xbfde_b851_eb85_1eb8) six-tenths)
+
+abbrev pub in-the-one : List Float
+in-the-one = coords (opposite axis-y) ++ coords axis-z ++ coords axis-x
+
+-- X, X, Z, -Z, cut into (1,2,3) and (0,1,3): the first has no mean, since Z and -Z are antipodes, and with one mean alone the loop is mute
+abbrev pub one-mean : List Float
+one-mean = coords axis-x ++ coords axis-x ++ coords axis-z ++ coords (opposite axis-z)
 
 -- X, Y, Y, Z: reversed, its two corners at Y have numbers 1 and 2
 abbrev pub repeated : List Float
@@ -42,12 +73,13 @@ repeated = coords axis-x ++ coords axis-y ++ coords axis-y ++ coords axis-z
 
 -- five positions, the second and third the same: reversed, the classes are 0, 1, 0, 2, 2
 abbrev pub five-positions : List Float
-five-positions = coords axis-z ++ coords (at eight-tenths zero six-tenths) ++ coords (at eight-tenths zero six-tenths) ++ coords (at zero minus-one zero) ++ coords (at six-tenths zero eight-tenths)
-  where
-    minus-one : Float
-    minus-one = ofBits binary64 0xbff0_0000_0000_0000
+five-positions = coords axis-z ++ coords (at eight-tenths F64.zero six-tenths) ++ coords (at eight-tenths F64.zero six-tenths) ++ coords (opposite axis-y) ++ coords (at six-tenths F64.zero eight-tenths)
 
--- ---- the questions put to a loop as built
+-- five positions to and fro between two meridians, kept: the classes are 0, 0, 1, 0, 0, and the cuts (0,1,2), (2,3,4), (0,2,4)
+abbrev pub to-and-fro : List Float
+to-and-fro = coords (at F64.zero eight-tenths six-tenths) ++ coords (at eight-tenths F64.zero six-tenths) ++ coords (at F64.zero six-tenths eight-tenths) ++ coords (at six-tenths F64.zero eight-tenths) ++ coords axis-z
+
+-- ---- the questions put to loops as built
 abbrev pub header : Build.Outcome → Header
 header o = headerOf (o .answer)
 
@@ -57,35 +89,90 @@ placed o p = placeAnswer (header o) (o .positions) (o .normals) (o .classes) p
 abbrev pub cutFrom : Build.Outcome → List ℕ → Told
 cutFrom o room = triangulateOutcome (header o) (o .positions) (o .classes) room .answer
 
+abbrev pub cutInto : Build.Outcome → List ℕ → List ℕ
+cutInto o room = triangulateOutcome (header o) (o .positions) (o .classes) room .triangles
+
 abbrev pub checked : Build.Outcome → List ℕ → Told
 checked o triples = acceptsAnswer (header o) (o .positions) (o .classes) triples
 
--- ---- document 01's five empty programs
-pub record EmptyPrograms : Type 0 where
-  -- "One that refuses each list"
-  pub refuses-each-list : (k : ℕ) → built area-1 3 .answer ≡ Build.refused k → ⊥
-  -- "One that says `outside` .. always"
-  pub outside-always : placed (built area-1 3) in-area-1 ≡ answer 0 → ⊥
-  -- ".. or Disjoint always"
-  pub disjoint-always : related full-one empty-one ≡ answer 0 → ⊥
-  -- "One that leaves the ring buffers blank": its class codes stay 2
-  pub blank-ring : built area-1 3 .classes ≡ 2 ∷ 2 ∷ 2 ∷ [] → ⊥
-  -- "One that cuts the first ear and then fans the rest": a fan from the first corner is not the lowest ear
-  pub fan : four-cut .triangles ≡ 0 ∷ 1 ∷ 2 ∷ 0 ∷ 2 ∷ 3 ∷ [] → ⊥
-  -- "A made-up triangle count"
-  pub made-up-count : four-cut .answer ≡ answer 3 → ⊥
+-- a ring to another, and to the full loop
+abbrev pub pair : Build.Outcome → Build.Outcome → Told
+pair a b = relateAnswer (header a) (a .positions) (a .normals) (a .classes) (header b) (b .positions) (b .normals) (b .classes)
 
--- ---- document 01's traps
+abbrev pub toFull : Build.Outcome → Told
+toFull a = relateAnswer (header a) (a .positions) (a .normals) (a .classes) full-one [] [] []
+
+-- ---- wrong programs whose answer is computed
+-- the class of corner k by `Sphere::side`: the corner before against the edge from k to the next
+abbrev pub classBySide : List Float → ℕ → ℕ → ℕ
+classBySide ps n k = classOf (sideOf (posAt ps ((k + n - 1) % n)) (posAt ps k) (posAt ps ((k + 1) % n)))
+
+abbrev pub classesBySide : List Float → ℕ → List ℕ
+classesBySide ps n = flat (λ k. classBySide ps n k ∷ []) n 0
+
+-- a cut after which every vertex of the ring left is classed afresh, and all cuts with it
+abbrev pub afresh : List Float → List ℕ → List ℕ → Remaining
+afresh ps ids classes = record { ids = ids; classes = cond (ltb 3 (length ids)) (iterate (reclassify ps ids) (length ids) 0 classes) classes }
+
+unfoldable pub cuttingAfresh : List Float → ℕ → Remaining → Cutting
+cuttingAfresh ps zero s = record { triangles = s .ids; stuck = false }
+cuttingAfresh ps (suc k) s = atEar (ltb (lowestOf ps s) (length (s .ids))) (lowestOf ps s) (λ i. ahead (earOf (s .ids) i) (cuttingAfresh ps k (afresh ps (without i (s .ids)) (s .classes))))
+
+abbrev pub cutAfresh : Build.Outcome → ℕ → Told
+cutAfresh o n = cutTold (not (cuttingAfresh (o .positions) (n - 3) (wholeRing (o .classes)) .stuck)) (n - 2)
+
+-- ---- the five empty programs
+-- the second says outside of every place: of one in a ring of three, in a ring of more, in the full loop, and of one asked of a mute loop
+pub record OutsideAlways : Type 0 where
+  pub in-a-triangle : placed (built area-1 3) in-area-1 ≡ answer 0 → ⊥
+  pub in-a-ring : placed four-built axis-z ≡ answer 0 → ⊥
+  pub in-the-full-loop : placeAnswer full-one [] [] [] axis-x ≡ answer 0 → ⊥
+  pub of-a-mute-loop : placed (built one-mean 4) axis-y ≡ answer 0 → ⊥
+
+-- and Disjoint of every pair, of the five other relations too
+pub record DisjointAlways : Type 0 where
+  pub touching : pair (built area-1 3) (built area-2 3) ≡ answer 0 → ⊥
+  pub intersecting : pair (built area-1 3) (built across 3) ≡ answer 0 → ⊥
+  pub containing : related full-one empty-one ≡ answer 0 → ⊥
+  pub within : toFull (built area-1 3) ≡ answer 0 → ⊥
+  pub equal : pair (built area-1 3) (built area-1 3) ≡ answer 0 → ⊥
+
+-- the third leaves the ring buffers as they were, each of the three
+pub record BlankRing : Type 0 where
+  pub positions : built area-1 3 .positions ≡ blank 3 → ⊥
+  pub normals : built area-1 3 .normals ≡ blank 3 → ⊥
+  pub classes : built area-1 3 .classes ≡ blank-classes 3 → ⊥
+
+-- the fourth cuts the first ear, (0,1,2), and then fans the rest: from the first corner of the ring left, or by taking its first corner off, whatever that is
+pub record Fan : Type 0 where
+  -- the cutter's triangles are neither list, as it takes the lowest ear each time
+  pub cut-from-first : cutInto (built to-and-fro 5) (replicate 9 0) ≡ 0 ∷ 1 ∷ 2 ∷ 0 ∷ 2 ∷ 3 ∷ 0 ∷ 3 ∷ 4 ∷ [] → ⊥
+  pub cut-at-first : cutInto (built to-and-fro 5) (replicate 9 0) ≡ 0 ∷ 1 ∷ 2 ∷ 4 ∷ 0 ∷ 2 ∷ 2 ∷ 3 ∷ 4 ∷ [] → ⊥
+  -- and the checker accepts neither: (0,2,3) and (4,0,2) are no eligible ears of the ring left
+  pub accepted-from-first : checked (built to-and-fro 5) (0 ∷ 1 ∷ 2 ∷ 0 ∷ 2 ∷ 3 ∷ 0 ∷ 3 ∷ 4 ∷ []) ≡ answer 1 → ⊥
+  pub accepted-at-first : checked (built to-and-fro 5) (0 ∷ 1 ∷ 2 ∷ 4 ∷ 0 ∷ 2 ∷ 2 ∷ 3 ∷ 4 ∷ []) ≡ answer 1 → ⊥
+
+pub record EmptyPrograms : Type 0 where
+  -- the first refuses each list
+  pub refuses-each-list : (k : ℕ) → built area-1 3 .answer ≡ Build.refused k → ⊥
+  pub outside-always : OutsideAlways
+  pub disjoint-always : DisjointAlways
+  pub blank-ring : BlankRing
+  pub fan : Fan
+  -- the fifth makes a triangle count up: no count but 2 is that of four corners
+  pub made-up-count : (k : ℕ) → (k ≡ 2 → ⊥) → four-cut .answer ≡ answer k → ⊥
+
+-- ---- the traps
 pub record Traps : Type 0 where
-  -- "Classing every vertex afresh after a cut": no ear would be left
-  pub every-vertex-afresh : cutFrom (built five-positions 5) (replicate 9 0) ≡ refused 8 → ⊥
-  -- "or the first time by `Sphere::side`": the first corner at Y would be convex
-  pub first-by-side : built repeated 4 .classes ≡ 0 ∷ 0 ∷ 2 ∷ 0 ∷ [] → ⊥
-  -- "A strict comparison at 10·2^-52": the product of these three is exactly that
-  pub strict-side : sideOf (at zero zero epsilon) (at ten zero zero) axis-y ≡ Left → ⊥
-  -- "Letting a corner count as inside a three-corner loop": X is a corner of area 1
+  -- every vertex classed afresh after a cut: no ear would be left
+  pub every-vertex-afresh : cutFrom (built five-positions 5) (replicate 9 0) ≡ cutAfresh (built five-positions 5) 5 → ⊥
+  -- corners classed the first time by `Sphere::side`: the first corner at Y would be convex
+  pub first-by-side : built repeated 4 .classes ≡ classesBySide (built repeated 4 .positions) 4 → ⊥
+  -- a strict comparison at 10·2^-52: the product of these three is exactly that
+  pub strict-side : sideOf (at F64.zero F64.zero epsilon) (at ten F64.zero F64.zero) axis-y ≡ Left → ⊥
+  -- a corner that counts as inside a three-corner loop: X is a corner of area 1
   pub corner-inside : placed (built area-1 3) axis-x ≡ answer 1 → ⊥
-  -- "Comparing triangles by position": 2 stands where 1 does
+  -- triangles compared by position: 2 stands where 1 does
   pub by-position : checked (built repeated 4) (3 ∷ 0 ∷ 2 ∷ 1 ∷ 2 ∷ 3 ∷ []) ≡ answer 1 → ⊥
 
 -- ---- numbers, sides and the judge
@@ -93,34 +180,43 @@ pub record OfNumbers : Type 0 where
   -- a side test whose positive is right
   pub side-turned : sideOf axis-x axis-y axis-z ≡ Right → ⊥
   -- an equality that leaves 2^-52 itself out
-  pub strict-equality : near epsilon zero ≡ false → ⊥
+  pub strict-equality : near epsilon F64.zero ≡ false → ⊥
   -- a root whose digits are cut off and not rounded
   pub root-cut-off : rootOf two ≡ ofBits binary64 0x3ff6_a09e_667f_3bcc → ⊥
   -- a range of squared norms whose upper end is left out
-  pub upper-end-left-out : faultOf (at just-within zero zero) ≡ 4 → ⊥
+  pub upper-end-left-out : faultOf (at just-within F64.zero F64.zero) ≡ 4 → ⊥
   -- a judge of normals that passes over the last component
-  pub last-component-passed-over : vectorFault (at zero zero nan) 0 ≡ 0 → ⊥
+  pub last-component-passed-over : vectorFault (at F64.zero F64.zero nan) 0 ≡ 0 → ⊥
+  -- a midpoint of antipodes, and one whose vector is zero though its ends are none
+  pub midpoint-of-antipodes : (p : Vec3) → midpoint axis-x (opposite axis-x) ≡ At p → ⊥
+  pub midpoint-without-length : (p : Vec3) → midpoint axis-x (at (ofBits binary64 0xbff0_0000_0000_0000) tiny F64.zero) ≡ At p → ⊥
 
 -- ---- building
 pub record OfBuilding : Type 0 where
   -- room that is judged for two positions too, whose loop is EMPTY
   pub room-for-two : built (coords axis-x ++ coords axis-y) 0 .answer ≡ Build.refused 5 → ⊥
+  -- room that is judged by the list as given and not by the opened count: room for three suffices here
+  pub room-by-the-list : built (area-1 ++ coords axis-x) 3 .answer ≡ Build.refused 5 → ⊥
+  -- two closing positions taken off: one goes, and four corners are left
+  pub two-closing-positions : header (built (area-1 ++ coords axis-x ++ coords axis-x) 5) .count ≡ 3 → ⊥
   -- a list on one great circle that is built EMPTY
   pub flat-empty : header (built flat-list 3) .state ≡ Empty → ⊥
   -- a counter-clockwise list that is kept
   pub ring-kept : header four-built .reversed ≡ false → ⊥
+  -- normals worked out again from the reversed corners, and not negated: for the edge from Y to Y both ways give the same one
+  pub normals-worked-out-again : built repeated 4 .normals ≡ edgeNormals (built repeated 4 .positions) 4 → ⊥
   -- insides of a triangle
   pub triangle-with-insides : (a b : Vec3) → header (built area-1 3) .insides ≡ Two a b → ⊥
 
 -- ---- asking
 pub record OfAsking : Type 0 where
-  -- a full loop that contains nothing
-  pub full-is-outside : placeAnswer full-one [] [] [] axis-x ≡ answer 0 → ⊥
   -- the query's 3 ahead of the loop's 1
-  pub query-before-loop : placeAnswer (header four-built) [] [] [] (at nan zero zero) ≡ refused 3 → ⊥
+  pub query-before-loop : placeAnswer (header four-built) [] [] [] (at nan F64.zero F64.zero) ≡ refused 3 → ⊥
 
 -- ---- cutting and the checker
 pub record OfCutting : Type 0 where
+  -- a fan of the whole ring from its first corner, which the checker accepts: it is not the lowest ear each time
+  pub fan-of-all : four-cut .triangles ≡ 0 ∷ 1 ∷ 2 ∷ 0 ∷ 2 ∷ 3 ∷ [] → ⊥
   -- a class code of 3
   pub class-of-three : triangulateOutcome (header (built area-1 3)) (built area-1 3 .positions) (3 ∷ 0 ∷ 0 ∷ []) (replicate 3 0) .answer ≡ answer 1 → ⊥
   -- an output that is one number short
@@ -137,9 +233,13 @@ pub record OfCutting : Type 0 where
 -- ---- relating
 pub record OfRelating : Type 0 where
   -- FULL to EMPTY as Within, or as Equal; EMPTY to FULL as Within
-  pub within-for-containing : related full-one empty-one ≡ answer 4 → ⊥
+  pub full-within-empty : related full-one empty-one ≡ answer 4 → ⊥
   pub full-equals-empty : related full-one empty-one ≡ answer 5 → ⊥
   pub empty-within : related empty-one full-one ≡ answer 4 → ⊥
+  -- Within and Containing exchanged
+  pub containing-for-within : toFull (built area-1 3) ≡ answer 3 → ⊥
+  -- an answer where each ring is found in the other, and no 7
+  pub no-seven : (n : ℕ) → pair (built in-the-other 3) (built in-the-one 3) ≡ answer n → ⊥
   -- the second loop's 6 ahead of the first one's 1
   pub second-loop-first : relateAnswer (header four-built) [] [] [] (header (built area-1 3)) (built area-1 3 .positions) (built area-1 3 .normals) (3 ∷ 0 ∷ 0 ∷ []) ≡ refused 6 → ⊥
 

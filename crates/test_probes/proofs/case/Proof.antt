@@ -1,9 +1,9 @@
-use Rattle.bytes_leaves.specs.Leaves.{cases, caseOf}
-use Rattle.bytes_leaves.proofs.Tables.{past}
+use Rattle.test_probes.specs.Leaves.{cases, caseOf}
+use Rattle.test_probes.proofs.Tables.{past}
 use lib.ListN.{List·getD-eq-default}
 use mathlib.Core.Path.{sym}
-use Rattle.bytes_leaves.proofs.case.Statement.{statement}
-use Rattle.bytes_leaves.proofs.case.Tie as tie
+use Rattle.test_probes.proofs.case.Statement.{statement}
+use Rattle.test_probes.proofs.case.Tie as tie
 
 pub case-spec : {M : Type 1} → statement M
 unfolding caseOf

@@ -1,8 +1,8 @@
-use Rattle.bytes_leaves.specs.Leaves.{leafCap}
+use Rattle.test_probes.specs.Leaves.{leafCap}
 use borrow.Author.Tests.{lt-ltb, le-ltb, eq-eqb, ne-eqb}
 use borrow.Author.Needs.{needs}
-use Rattle.bytes_leaves.proofs.leaf_cap.Statement.{statement}
-use Rattle.bytes_leaves.proofs.leaf_cap.Tie as tie
+use Rattle.test_probes.proofs.leaf_cap.Statement.{statement}
+use Rattle.test_probes.proofs.leaf_cap.Tie as tie
 
 pub leaf-cap-spec : {M : Type 1} → statement M
 unfolding leafCap

@@ -1,11 +1,11 @@
-use Rattle.bytes_leaves.specs.Leaves.{numbers, numberOf}
+use Rattle.test_probes.specs.Leaves.{numbers, numberOf}
 use Rattle.root.proofs.Floats.{quotient}
-use Rattle.bytes_leaves.proofs.Tables.{past}
+use Rattle.test_probes.proofs.Tables.{past}
 use lib.Ieee.{nan}
 use lib.ListN.{List·getD-eq-default}
 use mathlib.Core.Path.{sym, _∙_}
-use Rattle.bytes_leaves.proofs.number.Statement.{statement}
-use Rattle.bytes_leaves.proofs.number.Tie as tie
+use Rattle.test_probes.proofs.number.Statement.{statement}
+use Rattle.test_probes.proofs.number.Tie as tie
 
 pub number-spec : {M : Type 1} → statement M
 unfolding numberOf

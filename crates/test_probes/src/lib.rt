@@ -1,9 +1,7 @@
-// Test probes for the exports: each leaf by its number, over raw floats, for runs beside the Rust.
+// Probes for runs beside the Rust: each leaf by its number, over raw floats, as C-style exports of a library that is not shipped.
 ghost use mathlib.Core.Path.{_≡_};
-ghost use lib.Ieee.{binary64, ofBits, toBits};
-ghost use Rattle.angle.specs.Arctan.{atan2};
 ghost use Rattle.bytes_loop.specs.Outcome.{outcome};
-ghost use Rattle.bytes_leaves.specs.Leaves as Leaves;
+ghost use Rattle.test_probes.specs.Leaves as Leaves;
 use base::Side;
 use bytes_loop::refusal;
 use cap::Cap;
@@ -110,7 +108,8 @@ fn case(op: u32, a: Vec3, b: Vec3, c: Vec3) -> u32
     }
 }
 
-pub fn leaf_vec(op: u32, input: &[f64], out: &mut [f64]) -> u32
+#[no_mangle]
+pub extern "C" fn leaf_vec(op: u32, input: &[f64], out: &mut [f64]) -> u32
     ensures { λ r. ⌜ outcome r (now (out .exit)) ≡ Leaves.leafVec op (now (input .entry)) (now (out .entry)) ⌝ }
 {
     if input.len() < 9 {
@@ -135,7 +134,8 @@ pub fn leaf_vec(op: u32, input: &[f64], out: &mut [f64]) -> u32
     0
 }
 
-pub fn leaf_number(op: u32, input: &[f64]) -> u64
+#[no_mangle]
+pub extern "C" fn leaf_number(op: u32, input: &[f64]) -> u64
     ensures { λ r. ⌜ r ≡ Leaves.leafNumber op (now (input .entry)) ⌝ }
 {
     if input.len() < 9 {
@@ -152,7 +152,8 @@ pub fn leaf_number(op: u32, input: &[f64]) -> u64
     ))
 }
 
-pub fn leaf_case(op: u32, input: &[f64]) -> u32
+#[no_mangle]
+pub extern "C" fn leaf_case(op: u32, input: &[f64]) -> u32
     ensures { λ r. ⌜ r ≡ Leaves.leafCase op (now (input .entry)) ⌝ }
 {
     if input.len() < 9 {
@@ -170,7 +171,8 @@ pub fn leaf_case(op: u32, input: &[f64]) -> u32
 }
 
 // The bounding cap of a list in the order given: its centre and its radius.
-pub fn leaf_cap(list: &[f64], out: &mut [f64]) -> u32
+#[no_mangle]
+pub extern "C" fn leaf_cap(list: &[f64], out: &mut [f64]) -> u32
     ensures { λ r. ⌜ outcome r (now (out .exit)) ≡ Leaves.leafCap (now (list .entry)) (now (out .entry)) ⌝ }
 {
     if list.len() % 3 != 0 {
@@ -183,11 +185,4 @@ pub fn leaf_cap(list: &[f64], out: &mut [f64]) -> u32
     vec3::put(out, 0, c.centre);
     out[3] = c.radius.0;
     0
-}
-
-// The arctangent over bit patterns: 7FF8000000000000 for every NaN.
-pub fn atan2_bits(y: u64, x: u64) -> u64
-    ensures { λ r. ⌜ r ≡ toBits binary64 (atan2 (ofBits binary64 y) (ofBits binary64 x)) ⌝ }
-{
-    wire::to_bits(angle::atan2(wire::of_bits(y), wire::of_bits(x)))
 }

@@ -1,8 +1,8 @@
-use Rattle.bytes_leaves.specs.Leaves.{leafCase}
+use Rattle.test_probes.specs.Leaves.{leafCase}
 use borrow.Author.Tests.{lt-ltb, le-ltb, le-leb, lt-leb}
 use borrow.Author.Needs.{needs}
-use Rattle.bytes_leaves.proofs.leaf_case.Statement.{statement}
-use Rattle.bytes_leaves.proofs.leaf_case.Tie as tie
+use Rattle.test_probes.proofs.leaf_case.Statement.{statement}
+use Rattle.test_probes.proofs.leaf_case.Tie as tie
 
 pub leaf-case-spec : {M : Type 1} → statement M
 unfolding leafCase

@@ -1,8 +1,8 @@
-use Rattle.bytes_leaves.specs.Leaves.{leafNumber}
+use Rattle.test_probes.specs.Leaves.{leafNumber}
 use borrow.Author.Tests.{lt-ltb, le-ltb, le-leb, lt-leb}
 use borrow.Author.Needs.{needs}
-use Rattle.bytes_leaves.proofs.leaf_number.Statement.{statement}
-use Rattle.bytes_leaves.proofs.leaf_number.Tie as tie
+use Rattle.test_probes.proofs.leaf_number.Statement.{statement}
+use Rattle.test_probes.proofs.leaf_number.Tie as tie
 
 pub leaf-number-spec : {M : Type 1} → statement M
 unfolding leafNumber

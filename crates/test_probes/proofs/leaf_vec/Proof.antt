@@ -1,8 +1,8 @@
-use Rattle.bytes_leaves.specs.Leaves.{leafVec}
+use Rattle.test_probes.specs.Leaves.{leafVec}
 use borrow.Author.Tests.{lt-ltb, le-ltb, le-leb, lt-leb}
 use borrow.Author.Needs.{needs}
-use Rattle.bytes_leaves.proofs.leaf_vec.Statement.{statement}
-use Rattle.bytes_leaves.proofs.leaf_vec.Tie as tie
+use Rattle.test_probes.proofs.leaf_vec.Statement.{statement}
+use Rattle.test_probes.proofs.leaf_vec.Tie as tie
 
 pub leaf-vec-spec : {M : Type 1} → statement M
 unfolding leafVec

@@ -1,6 +1,6 @@
 use borrow.Author.Needs.{needs}
-use Rattle.bytes_leaves.proofs.point_or.Statement.{statement}
-use Rattle.bytes_leaves.proofs.point_or.Tie as tie
+use Rattle.test_probes.proofs.point_or.Statement.{statement}
+use Rattle.test_probes.proofs.point_or.Tie as tie
 
 pub point-or-spec : {M : Type 1} → statement M
 point-or-spec =

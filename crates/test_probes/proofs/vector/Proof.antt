@@ -1,10 +1,10 @@
-use Rattle.bytes_leaves.specs.Leaves.{vectors, vectorOf}
+use Rattle.test_probes.specs.Leaves.{vectors, vectorOf}
 use Rattle.vec3.specs.Vec.{origin}
-use Rattle.bytes_leaves.proofs.Tables.{past}
+use Rattle.test_probes.proofs.Tables.{past}
 use lib.ListN.{List·getD-eq-default}
 use mathlib.Core.Path.{sym}
-use Rattle.bytes_leaves.proofs.vector.Statement.{statement}
-use Rattle.bytes_leaves.proofs.vector.Tie as tie
+use Rattle.test_probes.proofs.vector.Statement.{statement}
+use Rattle.test_probes.proofs.vector.Tie as tie
 
 pub vector-spec : {M : Type 1} → statement M
 unfolding vectorOf

@@ -11,7 +11,8 @@
    aligns them (8 and 2 bytes). Slices that are only read may overlap. A slice that is written overlaps no other.
    Numbers in bytes are little-endian, floats are IEEE 754 binary64. A -0.0 handed in counts as 0.0.
 
-   STACK. A call needs less than DESK_STACK_BYTES of stack, and takes no memory from the heap.
+   STACK. A call needs less than DESK_STACK_BYTES of stack: exports/check measures that calls on loops of 512 corners stay
+   below half of it. No memory is taken from the heap; of a C library memcpy and memset are needed.
    THREADS. The library has no variable of its own: calls may run at the same time in any number of threads, as long as
    no slice that one call writes is read or written by another meanwhile.
 
@@ -42,7 +43,7 @@ extern "C" {
 /* ---- refusals: an answer from DESK_REFUSED on */
 #define DESK_REFUSED 65536u
 #define DESK_IS_REFUSED(answer) ((answer) >= DESK_REFUSED)
-#define DESK_REFUSED_SHAPE (DESK_REFUSED + 1u)      /* a slice to be read has a length that cannot be, or a loop's count does not fit its state */
+#define DESK_REFUSED_SHAPE (DESK_REFUSED + 1u)      /* a length or a count does not fit: see each call */
 #define DESK_REFUSED_MANY (DESK_REFUSED + 2u)       /* more than DESK_MOST_POSITIONS positions */
 #define DESK_REFUSED_NOT_FINITE (DESK_REFUSED + 3u) /* a component is NaN or infinite */
 #define DESK_REFUSED_NOT_UNIT (DESK_REFUSED + 4u)   /* a position's squared norm is outside 1-2^-40 to 1+2^-40 */

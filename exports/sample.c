@@ -99,7 +99,7 @@ static void cut(const char *name, const Area *area) {
     uint32_t i, n = desk_triangles(area->bytes, area->size, out, sizeof out);
     if (refused(name, n))
         return;
-    printf("%s: %u triangles, accepted: %s;", name, (unsigned)n,
+    printf("%s: triangles %u, accepted %s:", name, (unsigned)n,
            desk_accepts(area->bytes, area->size, out, 6u * n) == DESK_YES ? "yes" : "no");
     for (i = 0; i < n; i++) {
         const uint8_t *t = out + 6 * i;
@@ -117,7 +117,7 @@ static void cut_full(const Area *area) {
     if (refused("full", n) || refused("full", desk_full_positions(positions, DESK_FULL_POSITIONS_FLOATS)))
         return;
     p = positions + 3 * out[6 * (n - 1)];
-    printf("full: %u triangles, the last one starts at (%.3f, %.3f, %.3f)\n", (unsigned)n, p[0], p[1], p[2]);
+    printf("full: triangles %u, the last one starts at (%.3f, %.3f, %.3f)\n", (unsigned)n, p[0], p[1], p[2]);
 }
 
 int main(void) {
@@ -134,10 +134,8 @@ int main(void) {
         relate("area 1 to area 2", &a, &b);
         cut("area 1", &a);
     }
-    if (build("square", &c, square, 4)) {
-        relate("square to area 1", &c, &a);
+    if (build("square", &c, square, 4))
         cut("square", &c);
-    }
     build("too long", &c, longer, 3);
     if (build("silent", &mute, silent, 4))
         place("silent", &mute, 0.6, 0.0, 0.8);

@@ -63,7 +63,7 @@ numbersOutcome o = outcome (numberOf (o .answer)) (o .triangles)
 unfoldable pub floatsOutcome : List ℕ → List Float → List ℕ → List ℕ → Outcome ℕ
 floatsOutcome s ps cs out = outcomeBy (headerFault s) out (numbersOutcome (T.triangulateOutcome (headerAt s) ps cs out))
 
--- the 12 positions that a full loop's triangles number, as 36 floats: 5 below that, and 12 with the table in front
+-- SCOPE 19, 34: the 12 positions that a full loop's triangles number, as 36 floats; 5 below that, else 12 with the table in front
 unfoldable pub fullPositionsOutcome : List Float → Outcome Float
 fullPositionsOutcome out = outcomeBy (cond (ltb (length out) 36) 5 0) out (outcome 12 (positions ++ drop 36 out))
 

@@ -13,7 +13,7 @@ fn takes(e: Export) -> bool {
     (e as u32) < Export::BuildF64 as u32
 }
 
-/// Whether no loop in the call is weak, and a pair needed no midpoint.
+/// Whether no loop in the call is weak, a pair needed no midpoint, and no arctangent is of a NaN.
 fn in_domain(c: &Call, a: &Answer) -> bool {
     let weak = |b: &[u8]| b.len() > 3 && b[3] & 2 != 0;
     let handed = c.args.iter().any(|x| matches!(x, Arg::Bytes(b) if b.len() >= 88 && weak(b)));
@@ -24,8 +24,8 @@ fn in_domain(c: &Call, a: &Answer) -> bool {
         }
         _ => false,
     };
-    let far = c.export == Export::Atan2 && a.value == model::leaves::NAN;
-    (c.export == Export::Build || !handed) && !built && !midpoint && !far
+    let nan = c.export == Export::Atan2 && c.args.iter().any(|x| f64::from_bits(x.word()).is_nan());
+    (c.export == Export::Build || !handed) && !built && !midpoint && !nan
 }
 
 fn one(c: &Call, a: &Answer) -> Vec<u8> {

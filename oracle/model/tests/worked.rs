@@ -1,4 +1,4 @@
-//! Document 01's worked examples ("Settled by proof") and DESIGN part 4's findings, asked of the model.
+//! The worked examples (SCOPE 37) and what running the source showed (docs/DIFFERENCES.md), asked of the model.
 use model::read::REFUSED;
 use model::*;
 
@@ -86,7 +86,7 @@ fn refusal_seven() {
     assert_eq!(desk_pair(&a, &b), REFUSED + 7);
 }
 
-/// Document 02, Wish 2: the source says Disjoint one way round and Intersecting the other.
+/// Of long arcs the source says Disjoint one way round and Intersecting the other.
 #[test]
 fn long_arcs() {
     let arc = |s: P, e: P| {

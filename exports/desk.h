@@ -1,6 +1,6 @@
 /* The desk's geometry for C and C++: the functions of libexports.a (`rt staticlib exports`, x86-64 Linux).
-   exports/sample.c is a whole program over them; exports/check compiles it as C99 and as C++, links it, runs it, and
-   holds the names below to those of the archive.
+   docs/SCOPE.md says what each answer means; exports/sample.c is a whole program; exports/check compiles it as C99 and
+   as C++, links and runs it, and holds every name and constant below to the archive.
 
    ANSWERS. Every call returns for every input. An answer below DESK_REFUSED is an answer. One from there on is a
    refusal, DESK_REFUSED plus its number (the constants DESK_REFUSED_..), and then nothing was written to any buffer.
@@ -9,10 +9,10 @@
    BUFFERS. A slice is a pointer and a count of elements (bytes, doubles or uint16_t, by the pointer's type); the
    pointer may be null where the count is 0. Bytes may stand at any address; doubles and uint16_t are aligned as C
    aligns them (8 and 2 bytes). Slices that are only read may overlap. A slice that is written overlaps no other.
-   Numbers in bytes are little-endian, floats are IEEE 754 binary64. A -0.0 handed in counts as 0.0.
+   Numbers in bytes are little-endian, floats are IEEE 754 binary64. A -0.0 in a position or normal counts as 0.0.
 
-   STACK. A call needs less than DESK_STACK_BYTES of stack: exports/check measures that calls on loops of 512 corners stay
-   below half of it. No memory is taken from the heap; of a C library memcpy and memset are needed.
+   STACK. A call needs less than DESK_STACK_BYTES of stack: exports/check measures that calls on loops of 512 corners
+   stay below half of it. No memory is taken from the heap; of a C library memcpy and memset are needed.
    THREADS. The library has no variable of its own: calls may run at the same time in any number of threads, as long as
    no slice that one call writes is read or written by another meanwhile.
 
@@ -105,8 +105,8 @@ extern "C" {
 /* ---- loops
    Refusals are looked for in this order, and the first is given.
    "A list's": SHAPE, MANY, then NOT_FINITE and NOT_UNIT position by position.
-   "A loop's": SHAPE (a length that does not agree with the count, a state above 2, a count that does not fit the state),
-   MANY, CLASS, then NOT_FINITE and NOT_UNIT position by position, then NOT_FINITE of normals, cap and insides.
+   "A loop's": SHAPE (a length that does not agree with the count, a state above 2, a count that does not fit the
+   state), MANY, CLASS, then NOT_FINITE and NOT_UNIT position by position, then NOT_FINITE of normals, cap and insides.
    "A position's": SHAPE (not 24 bytes), NOT_FINITE, NOT_UNIT. */
 
 /* Builds the loop of a list. The answer is its count, 0 for empty and full, whose 88 bytes of header alone are written.

@@ -1,6 +1,5 @@
-/* A whole program over desk.h, plain C99 and C++: two areas are built, asked, compared and cut, and then three calls that
-   cannot be answered as a hurried caller expects: a refusal, a ring that is mute, and a full loop. What it prints is
-   exports/sample.txt. */
+/* A whole program over desk.h, plain C99 and C++: two areas are built, asked, compared and cut, and then come a refusal,
+   a ring that is mute, and a full loop. What it prints is exports/sample.txt. */
 #include "desk.h"
 #include <stdio.h>
 #include <string.h>

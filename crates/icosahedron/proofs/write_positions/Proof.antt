@@ -16,17 +16,19 @@ Inv-loop out₀ i₀ out i = Fill 3 (λ j. coords (positionAt j)) 12 i out₀ ou
 abbrev μ-loop : tie.MeasureT-loop
 μ-loop out₀ i₀ out i = 12 - i
 
+loop-holds : tie.Need-loop-holds Inv-loop μ-loop
+loop-holds c = fill (λ j. refl) (omega arith)
+
+loop-again : tie.Need-loop-again Inv-loop μ-loop
+loop-again c =
+    let laid = c .before .before in
+    let inv = laid .before .before .before .before .loop .inv in
+    fill-on inv (simp (laid .put .ensures, laid .before .position .ensures)) (omega arith)
+
+returns : tie.Need-returns Inv-loop μ-loop
+returns c = rw positions-in-threes at (fill-end (c .before .loop .inv) (omega arith))
+
 pub write-positions-spec : {M : Type 1} → statement M
 write-positions-spec =
     tie.close
-    (tie.spec
-    Inv-loop μ-loop
-    (λ c. fill (λ j. refl) (omega arith))
-    (λ c κs. search needs)
-    (λ c κs. search needs)
-    (λ c. search needs)
-    (λ c. search needs)
-    (λ c. let laid = c .before .before in
-    fill-on (laid .before .before .before .before .loop .inv) (simp (laid .put .ensures, laid .before .position .ensures)) (omega arith))
-    (λ c. search needs)
-    (λ c. rw positions-in-threes at (fill-end (c .before .loop .inv) (omega arith))))
+    (tie.spec Inv-loop μ-loop loop-holds (λ c κs. search needs) (λ c κs. search needs) (λ c. search needs) (λ c. search needs) loop-again (λ c. search needs) returns)

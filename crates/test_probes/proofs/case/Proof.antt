@@ -1,3 +1,4 @@
+-- Each number of the table calls its test; past the table it is 0.
 use Rattle.test_probes.specs.Leaves.{cases, caseOf}
 use Rattle.test_probes.proofs.Tables.{past}
 use lib.ListN.{List·getD-eq-default}

@@ -1,3 +1,4 @@
+-- Each number of the table calls its function; past the table it is a NaN.
 use Rattle.test_probes.specs.Leaves.{numbers, numberOf}
 use Rattle.root.proofs.Floats.{quotient}
 use Rattle.test_probes.proofs.Tables.{past}

@@ -1,3 +1,4 @@
+-- A point that is there is itself, one that is not the origin.
 use borrow.Author.Needs.{needs}
 use Rattle.test_probes.proofs.point_or.Statement.{statement}
 use Rattle.test_probes.proofs.point_or.Tie as tie

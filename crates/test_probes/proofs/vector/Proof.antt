@@ -1,3 +1,4 @@
+-- Each number of the table calls its function; past the table it is the origin.
 use Rattle.test_probes.specs.Leaves.{vectors, vectorOf}
 use Rattle.vec3.specs.Vec.{origin}
 use Rattle.test_probes.proofs.Tables.{past}

@@ -2,8 +2,8 @@
 -- and before 8. Definitions only.
 use Prim.Native.Nat.{ℕ, _-_, _*_, _≤_}
 use mathlib.Core.Bool.{cond}
-use mathlib.Core.List.{List}
-use lib.ListN.{length, replicate}
+use mathlib.Core.List.{List, _++_}
+use lib.ListN.{length, replicate, drop}
 use lib.Seq.{sets}
 use lib.Dec.{ltb}
 use lib.Ieee.{Float}
@@ -13,6 +13,7 @@ use Rattle.loop_header.specs.declared.State.the-variants.{Empty, Full, Ring}
 use Rattle.loop_header.specs.declared.Header.{Header}
 use Rattle.loop_header.specs.Loops.{cutFault}
 use Rattle.loop_ask.specs.Answers.{Told, refused, answer}
+use Rattle.icosahedron.specs.Table.{positions}
 use Rattle.loop_triangles.specs.declared.Cut.{Cut}
 use Rattle.loop_triangles.specs.Triangles as T
 use Rattle.wire.specs.Wire.{numbersBytes}
@@ -61,6 +62,10 @@ numbersOutcome o = outcome (numberOf (o .answer)) (o .triangles)
 
 unfoldable pub floatsOutcome : List ℕ → List Float → List ℕ → List ℕ → Outcome ℕ
 floatsOutcome s ps cs out = outcomeBy (headerFault s) out (numbersOutcome (T.triangulateOutcome (headerAt s) ps cs out))
+
+-- SCOPE 19, 34: the 12 positions that a full loop's triangles number, as 36 floats; 5 below that, else 12 with the table in front
+unfoldable pub fullPositionsOutcome : List Float → Outcome Float
+fullPositionsOutcome out = outcomeBy (cond (ltb (length out) 36) 5 0) out (outcome 12 (positions ++ drop 36 out))
 
 -- ---- inner
 abbrev pub toldCut : Cut → Told

@@ -1,4 +1,4 @@
-// Triangles of loops in bytes. The positions are copied into a work array, the classes are read where they stand.
+// Triangles of loops in bytes, and the positions behind a full loop's. The positions are copied into a work array, the classes are read where they stand.
 ghost use mathlib.Core.Path.{_≡_};
 ghost use Prim.Native.Nat.{_*_, _≤_};
 ghost use lib.ListN.{length};
@@ -113,4 +113,15 @@ pub fn cut_floats(header: &[u8], positions: &[f64], classes: &[u8], out: &mut [u
         return refusal(f);
     }
     number(loop_triangles::triangulate(bytes_loop::header_at(header), positions, classes, out))
+}
+
+// The 12 positions that a full loop's triangles number.
+pub fn full_positions(out: &mut [f64]) -> u32
+    ensures { λ r. ⌜ outcome r (now (out .exit)) ≡ Cu.fullPositionsOutcome (now (out .entry)) ⌝ }
+{
+    if out.len() < 36 {
+        return refusal(5);
+    }
+    icosahedron::write_positions(out);
+    12
 }

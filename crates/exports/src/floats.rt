@@ -15,5 +15,5 @@ pub extern "C" fn desk_root(b: u64) -> u64
 pub extern "C" fn desk_atan2(y: u64, x: u64) -> u64
     ensures { λ r. ⌜ r ≡ toBits binary64 (atan2 (ofBits binary64 y) (ofBits binary64 x)) ⌝ }
 {
-    bytes_leaves::atan2_bits(y, x)
+    wire::to_bits(angle::atan2(wire::of_bits(y), wire::of_bits(x)))
 }

@@ -2,4 +2,3 @@
 pub mod floats;
 pub mod loops;
 pub mod minor_arcs;
-mod probes;

@@ -89,6 +89,13 @@ pub extern "C" fn desk_triangles_f64(
 }
 
 #[no_mangle]
+pub extern "C" fn desk_full_positions(out: &mut [f64]) -> u32
+    ensures { λ r. ⌜ outcome r (now (out .exit)) ≡ Cu.fullPositionsOutcome (now (out .entry)) ⌝ }
+{
+    bytes_cut::full_positions(out)
+}
+
+#[no_mangle]
 pub extern "C" fn desk_accepts(of: &[u8], triangles: &[u8]) -> u32
     ensures { λ r. ⌜ r ≡ As.numberOf (Ch.acceptsTold (now (of .entry)) (now (triangles .entry))) ⌝ }
 {

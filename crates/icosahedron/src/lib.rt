@@ -120,6 +120,16 @@ pub fn position(i: usize) -> Vec3
     }
 }
 
+// The positions, into the front of a lent list.
+pub fn write_positions(out: &mut [f64])
+    requires { ⌜ 36 ≤ length (now out) ⌝ }
+    ensures { λ _. ⌜ now (out .exit) ≡ T.positions ++ drop 36 (now (out .entry)) ⌝ }
+{
+    for i in 0..12 {
+        vec3::put(out, i, position(i));
+    }
+}
+
 // The triples, into the front of a lent list.
 pub fn write_triples(out: &mut [u16])
     requires { ⌜ 60 ≤ length (now out) ⌝ }

@@ -1,6 +1,6 @@
 // Replays recorded answers of the Rust: each record of the file that the first argument names is put to the port's exports, and how many agree is printed.
 // `host record` writes the file; its format stands at the top of oracle/host/src/record.rs.
-ghost use Prim.Native.Nat.{_+_, _≤_, _<_};
+ghost use Prim.Native.Nat.{_+_, _*_, _≤_, _<_};
 ghost use lib.ListN.{length};
 use exports::floats;
 use exports::loops;
@@ -83,6 +83,25 @@ fn ask_arcs(export: u64, a: &[u8], b: &[u8], out: &mut [u8]) -> u32 {
     minor_arcs::desk_arc_relate(a, b, out)
 }
 
+fn full_in(out: &mut [u8], floats: &mut [f64]) -> u32
+    requires { ⌜ 8 * length (now floats) ≤ length (now out) ⌝ }
+{
+    wire::read_floats(out, 0, floats);
+    let r = loops::desk_full_positions(floats);
+    wire::put_floats(out, 0, floats);
+    r
+}
+
+// The full loop's positions: the output's bytes are lent as floats.
+fn ask_full(out: &mut [u8]) -> u32 {
+    let room = out.len() / 8;
+    if room > 128 {
+        return 0;
+    }
+    let mut floats = [0.0f64; 128];
+    full_in(out, &mut floats[..room])
+}
+
 // The port's answer, by the export's number.
 fn answer(export: u64, a: &[u8], b: &[u8], out: &mut [u8]) -> u64 {
     if export == 0 {
@@ -93,6 +112,9 @@ fn answer(export: u64, a: &[u8], b: &[u8], out: &mut [u8]) -> u64 {
     }
     if export < 12 {
         return ask_loops(export, a, b, out) as u64;
+    }
+    if export == 22 {
+        return ask_full(out) as u64;
     }
     ask_arcs(export, a, b, out) as u64
 }

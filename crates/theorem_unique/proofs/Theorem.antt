@@ -22,7 +22,7 @@ use Rattle.loop_relate.specs.Relations.{toldRelated}
 use Rattle.scene_words.specs.Words.{Wrote}
 use Rattle.scene_run.specs.Run.{sceneText}
 use Rattle.scene_run.proofs.Unique.{run-unique}
-use Rattle.theorem_unique.specs.Unique.{One, OneToOne, BuildEnd, toldBuild, CutEnd, toldEnd, RunEnd, Definitions, OfArcs, OfLoops, OfExports, OfScenes, Unique}
+use Rattle.theorem_unique.specs.Unique.{One, OneToOne, BuildEnd, toldBuild, CutEnd, toldEnd, RunEnd, Definitions, OfArcs, OfLoops, OfExports, OfProbes, OfScenes, Unique}
 
 -- ---- from the number back to the answer
 abbrev backPlaced : Told → Placed
@@ -179,7 +179,12 @@ of-exports = record {
   desk_place_f64 = λ s ps ns cs p. itself _;
   desk_triangles = λ s out. itself _;
   desk_triangles_f64 = λ s ps cs out. itself _;
+  desk_full_positions = λ out. itself _;
   desk_accepts = λ s t. itself _;
+}
+
+of-probes : OfProbes
+of-probes = record {
   leaf_vec = λ op input out. itself _;
   leaf_number = λ op input. itself _;
   leaf_case = λ op input. itself _;
@@ -195,4 +200,4 @@ of-scenes : OfScenes
 of-scenes = record { run = one-run }
 
 pub unique : Unique
-unique = record { definitions = definitions; of-arcs = of-arcs; of-loops = of-loops; of-exports = of-exports; of-scenes = of-scenes }
+unique = record { definitions = definitions; of-arcs = of-arcs; of-loops = of-loops; of-exports = of-exports; of-probes = of-probes; of-scenes = of-scenes }

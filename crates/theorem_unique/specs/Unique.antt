@@ -38,7 +38,7 @@ use Rattle.bytes_check.specs.Checking as Checking
 use Rattle.scene_words.specs.Words.{Wrote}
 use Rattle.scene_run.specs.Run.{sceneText}
 use Rattle.bytes_arcs.specs.Arcs as Bytes
-use Rattle.bytes_leaves.specs.Leaves as Leaves
+use Rattle.test_probes.specs.Leaves as Leaves
 
 -- what satisfies the contract is one
 abbrev pub One : {A : Type 0} → (A → Type 0) → Type 0
@@ -123,7 +123,11 @@ pub record OfExports : Type 0 where
   pub desk_place_f64 : (s : List ℕ) (ps ns : List Float) (cs : List ℕ) (p : Vec3) → One (λ (r : ℕ). r ≡ BytesAsk.numberOf (BytesAsk.placeTold s ps ns cs p))
   pub desk_triangles : (s out : List ℕ) → One (λ (l : Outcome ℕ). l ≡ BytesCut.trianglesOutcome s out)
   pub desk_triangles_f64 : (s : List ℕ) (ps : List Float) (cs out : List ℕ) → One (λ (l : Outcome ℕ). l ≡ BytesCut.floatsOutcome s ps cs out)
+  pub desk_full_positions : (out : List Float) → One (λ (l : Outcome Float). l ≡ BytesCut.fullPositionsOutcome out)
   pub desk_accepts : (s t : List ℕ) → One (λ (r : ℕ). r ≡ BytesAsk.numberOf (Checking.acceptsTold s t))
+
+-- crate test_probes
+pub record OfProbes : Type 0 where
   pub leaf_vec : (op : ℕ) (input out : List Float) → One (λ (l : Outcome Float). l ≡ Leaves.leafVec op input out)
   pub leaf_number : (op : ℕ) (input : List Float) → One (λ (r : ℕ). r ≡ Leaves.leafNumber op input)
   pub leaf_case : (op : ℕ) (input : List Float) → One (λ (r : ℕ). r ≡ Leaves.leafCase op input)
@@ -142,4 +146,5 @@ pub record Unique : Type 0 where
   pub of-arcs : OfArcs
   pub of-loops : OfLoops
   pub of-exports : OfExports
+  pub of-probes : OfProbes
   pub of-scenes : OfScenes

@@ -1,33 +1,73 @@
-//! The desk's exports for Rust. `raw` has one safe call per export, on slices and numbers; `Desk`'s types over it own
-//! their bytes. The library is x86-64 code; where it is not linked, or an export is not in it, a raw call
-//! answers `None`.
+//! The desk's exports for Rust. `raw` has one safe call per export, on slices and numbers; the types over it own their bytes.
+//! The library is x86-64 code; where it is not linked, or an export is not in it, a raw call answers `None` and the others
+//! `Error::Absent`.
 #![warn(missing_docs)]
+
+use std::fmt::{self, Display, Formatter};
 
 pub mod raw;
 
-/// The number of a refusal (document 01's table).
-#[derive(Clone, Copy, Debug, PartialEq, Eq)]
+/// The number of a refusal: docs/REFUSALS.md, and the constants of exports/desk.h.
+#[derive(Clone, Copy, Debug, PartialEq, Eq, Hash)]
 pub struct Refusal(pub u32);
+
+impl Refusal {
+    /// What the number means.
+    pub fn words(self) -> &'static str {
+        match self.0 {
+            1 => "a slice has a length that cannot be, or a loop's count does not fit its state",
+            2 => "more than 512 positions",
+            3 => "a component is NaN or infinite",
+            4 => "a position is not a unit vector",
+            5 => "an output is shorter than the result needs",
+            6 => "a class above 2 in a loop handed back",
+            7 => "each of two loops is found in the other",
+            8 => "the ring cannot be cut into triangles",
+            9 => "triangles of an empty or full loop cannot be checked",
+            _ => "a refusal that this crate does not know",
+        }
+    }
+}
+
+impl Display for Refusal {
+    fn fmt(&self, f: &mut Formatter) -> fmt::Result {
+        write!(f, "refused {}: {}", self.0, self.words())
+    }
+}
 
 /// Why there is no answer.
 #[derive(Clone, Copy, Debug, PartialEq, Eq)]
-pub enum Unanswered {
+pub enum Error {
     /// The desk refused.
     Refused(Refusal),
     /// The export is not linked.
     Absent,
 }
 
+impl Display for Error {
+    fn fmt(&self, f: &mut Formatter) -> fmt::Result {
+        match self {
+            Error::Refused(r) => r.fmt(f),
+            Error::Absent => f.write_str("the desk's library is not linked, or it has no such export"),
+        }
+    }
+}
+
+impl std::error::Error for Error {}
+
 /// An answer of the desk.
-pub type Answered<T> = Result<T, Unanswered>;
+pub type Answered<T> = Result<T, Error>;
+
+/// The most positions of a list, and corners of a ring.
+pub const MOST_POSITIONS: usize = 512;
 
 const REFUSED: u32 = 65_536;
 const HEADER: usize = 88;
 
 fn answered(word: Option<u32>) -> Answered<u32> {
     match word {
-        None => Err(Unanswered::Absent),
-        Some(w) if w >= REFUSED => Err(Unanswered::Refused(Refusal(w - REFUSED))),
+        None => Err(Error::Absent),
+        Some(w) if w >= REFUSED => Err(Error::Refused(Refusal(w - REFUSED))),
         Some(w) => Ok(w),
     }
 }
@@ -51,15 +91,33 @@ fn position(b: &[u8]) -> Position {
     std::array::from_fn(|i| f64::from_le_bytes(b[8 * i..8 * i + 8].try_into().unwrap()))
 }
 
-/// Where a position lies.
+/// The 12 positions that a full loop's triangles number.
+pub fn full_positions() -> Answered<[Position; 12]> {
+    let mut out = [0.0; 36];
+    answered(raw::desk_full_positions(&mut out))?;
+    Ok(std::array::from_fn(|i| [out[3 * i], out[3 * i + 1], out[3 * i + 2]]))
+}
+
+/// Where a position lies. One on the border, a corner or on an edge, may be told inside or outside: `has_vertex` and
+/// `any_edge_contains` tell of the border.
 #[derive(Clone, Copy, Debug, PartialEq, Eq)]
 pub enum Place {
-    /// Outside the loop or on its boundary.
+    /// Outside.
     Outside,
     /// Inside.
     Inside,
-    /// The loop has no inside positions to count from.
+    /// The loop cannot tell: a ring above three corners without insides. This is not `Outside`.
     Mute,
+}
+
+impl Display for Place {
+    fn fmt(&self, f: &mut Formatter) -> fmt::Result {
+        f.write_str(match self {
+            Place::Outside => "outside",
+            Place::Inside => "inside",
+            Place::Mute => "mute",
+        })
+    }
 }
 
 /// How two loops stand to each other.
@@ -67,16 +125,29 @@ pub enum Place {
 pub enum Relation {
     /// No point shared.
     Disjoint,
-    /// Boundaries meet, interiors do not.
+    /// Borders meet, interiors do not.
     Touching,
-    /// Boundaries cross.
+    /// Borders cross.
     Intersecting,
-    /// The other lies within this one.
+    /// The other lies within this one; their borders may meet.
     Containing,
-    /// This one lies within the other.
+    /// This one lies within the other; their borders may meet.
     Within,
-    /// The same boundary.
+    /// The same border.
     Equal,
+}
+
+impl Display for Relation {
+    fn fmt(&self, f: &mut Formatter) -> fmt::Result {
+        f.write_str(match self {
+            Relation::Disjoint => "disjoint",
+            Relation::Touching => "touching",
+            Relation::Intersecting => "intersecting",
+            Relation::Containing => "containing",
+            Relation::Within => "within",
+            Relation::Equal => "equal",
+        })
+    }
 }
 
 /// A built loop, in the exports' bytes.
@@ -98,14 +169,24 @@ impl Loop {
         &self.0
     }
 
-    /// The number of vertices: 0 for the empty and the full loop.
+    /// The number of corners: 0 for the empty and the full loop.
     pub fn count(&self) -> usize {
         usize::from(u16::from_le_bytes([self.0[0], self.0[1]]))
     }
 
-    /// Whether the loop is full.
+    /// Whether the loop is empty: no position lies in it.
+    pub fn is_empty(&self) -> bool {
+        self.0[2] == 0
+    }
+
+    /// Whether the loop is full: every position lies in it.
     pub fn is_full(&self) -> bool {
         self.0[2] == 1
+    }
+
+    /// Whether the loop cannot tell what lies in it: a ring above three corners without insides.
+    pub fn is_mute(&self) -> bool {
+        self.count() > 3 && self.0[3] & 4 == 0
     }
 
     /// Whether the list was reversed.
@@ -118,9 +199,9 @@ impl Loop {
         self.0[3] & 2 != 0
     }
 
-    /// The vertex of that number.
-    pub fn vertex(&self, i: usize) -> Position {
-        position(&self.0[HEADER + 24 * i..][..24])
+    /// The corner of that number, counted from 0; none from `count` on.
+    pub fn vertex(&self, i: usize) -> Option<Position> {
+        (i < self.count()).then(|| position(&self.0[HEADER + 24 * i..]))
     }
 
     /// Where a position lies.
@@ -144,7 +225,7 @@ impl Loop {
         })
     }
 
-    /// Triangles of ring numbers; a full loop's are numbers of the 12 positions of docs/CONSTANTS.md.
+    /// Triangles of ring numbers; a full loop's are numbers of `full_positions`.
     pub fn triangulate(&self) -> Answered<Vec<[u16; 3]>> {
         let room = if self.is_full() { 20 } else { self.count().saturating_sub(2) };
         let mut out = vec![0; 6 * room];
@@ -169,7 +250,7 @@ impl Loop {
         yes(raw::desk_simple(&self.0))
     }
 
-    /// Whether the position is a vertex.
+    /// Whether the position is a corner.
     pub fn has_vertex(&self, p: Position) -> Answered<bool> {
         yes(raw::desk_vertex(&self.0, &bytes(p)))
     }
@@ -179,9 +260,23 @@ impl Loop {
         yes(raw::desk_on_edge(&self.0, &bytes(p)))
     }
 
-    /// Whether the loops have the same vertices, whatever the start and direction.
+    /// Whether the loops have the same corners and classes, whatever the start and direction.
     pub fn is_equivalent(&self, o: &Loop) -> Answered<bool> {
         yes(raw::desk_equivalent(&self.0, &o.0))
+    }
+}
+
+impl Display for Loop {
+    fn fmt(&self, f: &mut Formatter) -> fmt::Result {
+        let state = match (self.0[2], self.is_mute()) {
+            (0, _) => "empty",
+            (1, _) => "full",
+            (_, true) => "mute ring",
+            _ => "ring",
+        };
+        let turned = if self.reversed() { "reversed" } else { "kept" };
+        let sure = if self.weak() { "weak" } else { "steady" };
+        write!(f, "{state} of {} corners, {turned}, {sure}", self.count())
     }
 }
 
@@ -196,6 +291,16 @@ pub enum Side {
     Right,
 }
 
+impl Display for Side {
+    fn fmt(&self, f: &mut Formatter) -> fmt::Result {
+        f.write_str(match self {
+            Side::Collinear => "collinear",
+            Side::Left => "left",
+            Side::Right => "right",
+        })
+    }
+}
+
 /// How two arcs stand to each other.
 #[derive(Clone, Copy, Debug, PartialEq)]
 pub enum ArcRelation {
@@ -207,6 +312,21 @@ pub enum ArcRelation {
     Touching(Position),
     /// They share this arc.
     Overlapping(Arc),
+}
+
+fn coordinates(f: &mut Formatter, p: Position) -> fmt::Result {
+    write!(f, "({}, {}, {})", p[0], p[1], p[2])
+}
+
+impl Display for ArcRelation {
+    fn fmt(&self, f: &mut Formatter) -> fmt::Result {
+        match self {
+            ArcRelation::Disjoint => f.write_str("disjoint"),
+            ArcRelation::Intersecting(p) => f.write_str("intersecting at ").and_then(|()| coordinates(f, *p)),
+            ArcRelation::Touching(p) => f.write_str("touching at ").and_then(|()| coordinates(f, *p)),
+            ArcRelation::Overlapping(a) => write!(f, "overlapping along {a}"),
+        }
+    }
 }
 
 /// An arc of a great circle, in the exports' bytes.
@@ -273,5 +393,13 @@ impl Arc {
             2 => ArcRelation::Touching(position(&out[..24])),
             _ => ArcRelation::Overlapping(Arc(out)),
         })
+    }
+}
+
+impl Display for Arc {
+    fn fmt(&self, f: &mut Formatter) -> fmt::Result {
+        coordinates(f, self.start())?;
+        f.write_str(" to ")?;
+        coordinates(f, self.end())
     }
 }

@@ -3,6 +3,9 @@
 /// Whether what is linked is the stand-in of oracle/standin and not the port.
 pub const STANDIN: bool = cfg!(has_desk_standin);
 
+/// Whether the exports are linked.
+pub const LINKED: bool = cfg!(has_desk_build);
+
 // A slice as the exports take it: pointer and count.
 macro_rules! exports {
     ($($(#[$doc:meta])* $has:ident $name:ident ( $($arg:ident : $kind:ident),* ) -> $ret:ty;)*) => {
@@ -20,7 +23,6 @@ macro_rules! exports {
         )*
     };
     (@safe word) => { u64 };
-    (@safe int) => { u32 };
     (@safe float) => { f64 };
     (@safe bytes) => { &[u8] };
     (@safe floats) => { &[f64] };
@@ -35,9 +37,6 @@ macro_rules! exports {
     }};
     (@call $name:ident $ret:ty [$($done:tt)*] $a:ident : word $(, $($rest:tt)*)?) => {
         exports!(@call $name $ret [$($done)* $a u64, $a;] $($($rest)*)?)
-    };
-    (@call $name:ident $ret:ty [$($done:tt)*] $a:ident : int $(, $($rest:tt)*)?) => {
-        exports!(@call $name $ret [$($done)* $a u32, $a;] $($($rest)*)?)
     };
     (@call $name:ident $ret:ty [$($done:tt)*] $a:ident : float $(, $($rest:tt)*)?) => {
         exports!(@call $name $ret [$($done)* $a f64, $a;] $($($rest)*)?)
@@ -108,14 +107,6 @@ exports! {
     /// As `desk_triangles`, on parts.
     has_desk_triangles_f64 desk_triangles_f64(header: bytes, positions: floats, classes: bytes,
         out: out_shorts) -> u32;
-    /// A test probe: vectors.
-    has_leaf_vec leaf_vec(op: int, input: floats, out: out_floats) -> u32;
-    /// A test probe: numbers, as bits.
-    has_leaf_number leaf_number(op: int, input: floats) -> u64;
-    /// A test probe: cases.
-    has_leaf_case leaf_case(op: int, input: floats) -> u32;
-    /// A test probe: the bounding cap of a list.
-    has_leaf_cap leaf_cap(list: floats, out: out_floats) -> u32;
-    /// The scene program's text: the number of bytes written.
-    has_desk_scene desk_scene(input: bytes, out: out_bytes) -> u32;
+    /// The 12 positions that a full loop's triangles number, 36 floats: 12.
+    has_desk_full_positions desk_full_positions(out: out_floats) -> u32;
 }

@@ -7,17 +7,17 @@
 pub enum Export {
     Root, Atan2, Build, Place, Pair, Triangles, Accepts, Convex, Simple, Vertex, OnEdge, Equivalent,
     Arc, ArcOpposite, ArcSide, ArcContains, ArcIntersection, ArcRelate,
-    BuildF64, PlaceF64, PairF64, TrianglesF64, LeafVec, LeafNumber, LeafCase, LeafCap, Scene,
+    BuildF64, PlaceF64, PairF64, TrianglesF64, FullPositions, LeafVec, LeafNumber, LeafCase, LeafCap, Scene,
 }
 
 impl Export {
     #[rustfmt::skip]
-    pub const ALL: [Export; 27] = {
+    pub const ALL: [Export; 28] = {
         use Export::*;
         [
             Root, Atan2, Build, Place, Pair, Triangles, Accepts, Convex, Simple, Vertex, OnEdge, Equivalent,
             Arc, ArcOpposite, ArcSide, ArcContains, ArcIntersection, ArcRelate,
-            BuildF64, PlaceF64, PairF64, TrianglesF64, LeafVec, LeafNumber, LeafCase, LeafCap, Scene,
+            BuildF64, PlaceF64, PairF64, TrianglesF64, FullPositions, LeafVec, LeafNumber, LeafCase, LeafCap, Scene,
         ]
     };
 }
@@ -163,6 +163,7 @@ macro_rules! dispatch {
             (Export::TrianglesF64, [Bytes(h), Floats(p), Bytes(c), OutShorts(o)]) => {
                 to::desk_triangles_f64(h, p, c, o).value()
             }
+            (Export::FullPositions, [OutFloats(o)]) => to::desk_full_positions(o).value(),
             (Export::LeafVec, [Int(op), Floats(i), OutFloats(o)]) => to::leaf_vec(*op, i, o).value(),
             (Export::LeafNumber, [Int(op), Floats(i)]) => to::leaf_number(*op, i).value(),
             (Export::LeafCase, [Int(op), Floats(i)]) => to::leaf_case(*op, i).value(),
@@ -181,5 +182,5 @@ pub fn by_model(call: &Call) -> Answer {
 
 /// The linked library's answer, where it is linked and has the export.
 pub fn by_link(call: &Call) -> Option<Answer> {
-    dispatch!(desk::raw, call)
+    dispatch!(crate::linked, call)
 }

@@ -37,23 +37,19 @@ fn same(a: NVector, b: NVector) -> bool {
     bits(a.as_vec3()) == bits(b.as_vec3())
 }
 
-/// The 12 positions as the faces name them: top, upper ring, lower ring, bottom.
-fn icosahedron() -> (Vec<NVector>, Vec<[usize; 3]>) {
-    let faces = sloop::icosahedron();
-    let mut vs = vec![faces[0].0];
-    vs.extend(faces[0..5].iter().map(|f| f.1));
-    vs.extend(faces[10..15].iter().map(|f| f.0));
-    vs.push(faces[15].2);
+/// The 12 positions, and the faces by their numbers.
+fn icosahedron() -> (&'static [NVector], Vec<[usize; 3]>) {
+    let vs = model::cut::full_positions();
     let at = |p: NVector| {
-        let places: Vec<usize> = (0..vs.len()).filter(|i| same(vs[*i], p)).collect();
-        assert_eq!(places.len(), 1, "each corner is one of the 12, and they differ");
-        places[0]
+        let indexes: Vec<usize> = (0..vs.len()).filter(|i| same(vs[*i], p)).collect();
+        assert_eq!(indexes.len(), 1, "each corner is one of the 12, and they differ");
+        indexes[0]
     };
-    let triples = faces.iter().map(|f| [at(f.0), at(f.1), at(f.2)]).collect();
+    let triples = sloop::icosahedron().iter().map(|f| [at(f.0), at(f.1), at(f.2)]).collect();
     (vs, triples)
 }
 
-/// The triples by document 01's rule.
+/// The triples by their rule (SCOPE 19).
 fn by_rule() -> Vec<[usize; 3]> {
     let mut t = Vec::new();
     t.extend((1..=4).map(|i| [0, i, i + 1]));

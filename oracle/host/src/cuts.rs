@@ -45,7 +45,7 @@ fn ring(list: &[P]) -> Option<Ring> {
     (b.state == RING).then_some(Ring { state: RING, vertices: b.vertices })
 }
 
-/// The rings: document 01's four corners, then some of each size, then some that get stuck, then two of 512.
+/// The rings: the four corners of SCOPE 37, then some of each size, then some that get stuck, then two of 512.
 fn rings(r: &mut Random) -> Vec<Ring> {
     let given = [[0.6, 0.0, 0.8], [0.0, 0.6, 0.8], [-0.6, 0.0, 0.8], [0.0, -0.6, 0.8]];
     let mut all: Vec<Ring> = ring(&given).into_iter().collect();

@@ -49,6 +49,26 @@ fn put_atan(t: &mut Tally, y: f64, x: f64) {
     t.put(Export::Atan2, vec![Arg::Word(y.to_bits()), Arg::Word(x.to_bits())]);
 }
 
+/// NaNs of both signs, quiet and signalling, with various payloads, on either side and on both, beside zeros, infinities and numbers.
+fn atan_nans(t: &mut Tally, r: &mut Random, n: usize) {
+    let ends = [1u64 << 51, (1 << 51) + 1, (1 << 52) - 1, 0xC_0000_0000_1234, 1, (1 << 51) - 1];
+    let mut nans: Vec<f64> = ends.iter().flat_map(|m| [0x7FF, 0xFFF].map(|e| f64::from_bits(e << 52 | m))).collect();
+    for _ in 0..n / 500 {
+        nans.push(f64::from_bits(r.bits() | 0x7FF8 << 48));
+    }
+    let others = [0.0, -0.0, 1.0, -1.0, 5e-324, -5e-324, f64::MAX, f64::MIN, f64::INFINITY, f64::NEG_INFINITY];
+    for nan in &nans {
+        for x in others {
+            put_atan(t, *nan, x);
+            put_atan(t, x, *nan);
+        }
+        put_atan(t, *nan, *r.pick(&nans));
+        let x = r.spread(-1074, 1023);
+        put_atan(t, *nan, x);
+        put_atan(t, x, *nan);
+    }
+}
+
 /// Pairs over all exponents, zeros of both signs, near-equal ones, infinities and NaN.
 pub fn atan(t: &mut Tally, r: &mut Random, n: usize) {
     let special = [
@@ -101,6 +121,7 @@ pub fn atan(t: &mut Tally, r: &mut Random, n: usize) {
             }
         }
     }
+    atan_nans(t, r, n);
 }
 
 /// Free of -0.0, as every vector of the source is.

@@ -5,6 +5,7 @@ mod calls;
 mod constants;
 mod cuts;
 mod leaves;
+mod linked;
 mod mutants;
 mod pairs;
 mod port;
@@ -52,7 +53,7 @@ const GROUPS: [(&str, &[Export]); 12] = [
     ),
     ("build", &[Export::Build, Export::BuildF64]),
     ("place", &[Export::Place, Export::PlaceF64]),
-    ("triangles", &[Export::Triangles, Export::TrianglesF64]),
+    ("triangles", &[Export::Triangles, Export::TrianglesF64, Export::FullPositions]),
     ("accepts", &[Export::Accepts]),
     ("questions", &[Export::Convex, Export::Simple, Export::Vertex, Export::OnEdge, Export::Equivalent]),
     ("pair", &[Export::Pair, Export::PairF64]),

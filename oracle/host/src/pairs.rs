@@ -152,7 +152,7 @@ fn note_domain(t: &mut Tally, a: &[u8], b: &[u8]) {
 }
 
 pub fn pair(t: &mut Tally, r: &mut Random, n: usize) {
-    // DESIGN part 4: loops as built that meet refusal 7.
+    // Loops as built that meet refusal 7 (docs/DIFFERENCES.md).
     let a = built_or_empty(&[[-0.8, 0.0, -0.6], [1.0, 0.0, 0.0], [0.64, -0.48, 0.6]]);
     let b = built_or_empty(&[[0.0, -1.0, 0.0], [0.0, 0.0, 1.0], [1.0, 0.0, 0.0]]);
     t.put(Export::Pair, vec![Arg::Bytes(a.clone()), Arg::Bytes(b.clone())]);

@@ -104,6 +104,7 @@ fn probe(export: Export) -> Call {
         }
         PairF64 => vec![b(), f(), f(), b(), b(), f(), f(), b()],
         TrianglesF64 => vec![b(), f(), b(), Arg::OutShorts(Vec::new())],
+        FullPositions => vec![out_floats()],
         LeafVec => vec![Arg::Int(0), nine(), out_floats()],
         LeafNumber | LeafCase => vec![Arg::Int(0), nine()],
         LeafCap => vec![f(), out_floats()],

@@ -4,16 +4,26 @@
 //! `calls::Export` and of stub.c), u16 size of what is handed in first, u16 of what is handed in second, u16 of the
 //! output, u64 expected value (u32 answers widened), and then those bytes: the first, the second, and what the output
 //! must hold after the call, where before the call byte i held 0xA5 xor (7 i mod 256). A number that is handed in is
-//! 8 bytes.
-//! Only exports on bytes and numbers are recorded, and only answers in the domain of equality or refusals.
-use crate::calls::{Answer, Arg, Call, Export, by_model};
+//! 8 bytes; an output of floats is their bytes.
+//! Only exports on bytes and numbers and the full loop's positions are recorded, and only answers in the domain of equality or
+//! refusals.
+use crate::calls::{Answer, Arg, Call, Export, blank, by_model};
 
-/// The exports on bytes and numbers.
+/// The exports that are recorded.
 fn takes(e: Export) -> bool {
-    (e as u32) < Export::BuildF64 as u32
+    (e as u32) < Export::BuildF64 as u32 || e == Export::FullPositions
 }
 
-/// Whether no loop in the call is weak, and a pair needed no midpoint.
+/// The call with the bytes in its output that the program `test_replay` lays there.
+fn laid(c: &Call) -> Call {
+    let lay = |a: &Arg| match a {
+        Arg::OutFloats(f) => a.of(0, &blank(8 * f.len())),
+        _ => a.clone(),
+    };
+    Call { export: c.export, args: c.args.iter().map(lay).collect() }
+}
+
+/// Whether no loop in the call is weak, a pair needed no midpoint, and no arctangent is of a NaN.
 fn in_domain(c: &Call, a: &Answer) -> bool {
     let weak = |b: &[u8]| b.len() > 3 && b[3] & 2 != 0;
     let handed = c.args.iter().any(|x| matches!(x, Arg::Bytes(b) if b.len() >= 88 && weak(b)));
@@ -24,8 +34,8 @@ fn in_domain(c: &Call, a: &Answer) -> bool {
         }
         _ => false,
     };
-    let far = c.export == Export::Atan2 && a.value == model::leaves::NAN;
-    (c.export == Export::Build || !handed) && !built && !midpoint && !far
+    let nan = c.export == Export::Atan2 && c.args.iter().any(|x| f64::from_bits(x.word()).is_nan());
+    (c.export == Export::Build || !handed) && !built && !midpoint && !nan
 }
 
 fn one(c: &Call, a: &Answer) -> Vec<u8> {
@@ -33,7 +43,7 @@ fn one(c: &Call, a: &Answer) -> Vec<u8> {
     let mut handed = 0;
     for arg in &c.args {
         match arg {
-            Arg::OutBytes(_) => parts[2] = a.outs[0].clone(),
+            Arg::OutBytes(_) | Arg::OutFloats(_) => parts[2] = a.outs[0].clone(),
             Arg::Bytes(d) => parts[handed] = d.clone(),
             _ => parts[handed] = arg.word().to_le_bytes().to_vec(),
         }
@@ -51,15 +61,16 @@ fn one(c: &Call, a: &Answer) -> Vec<u8> {
 /// The calls that a run would make, of small size, thinned to about `wanted` an export.
 pub fn file(calls: Vec<Call>, wanted: usize) -> (Vec<u8>, usize) {
     let mut kept: Vec<Vec<u8>> = Vec::new();
-    for number in 0..Export::BuildF64 as u32 {
-        let of: Vec<&Call> = calls.iter().filter(|c| c.export as u32 == number && takes(c.export)).collect();
+    for export in Export::ALL.into_iter().filter(|e| takes(*e)) {
+        let of: Vec<&Call> = calls.iter().filter(|c| c.export == export).collect();
         let small = |c: &&&Call| c.args.iter().all(|a| a.bytes().is_none_or(|b| b.len() < 900));
         let of: Vec<&&Call> = of.iter().filter(small).collect();
         let step = (of.len() / wanted).max(1);
         for c in of.into_iter().step_by(step).take(wanted) {
-            let a = by_model(c);
-            if in_domain(c, &a) {
-                kept.push(one(c, &a));
+            let c = laid(c);
+            let a = by_model(&c);
+            if in_domain(&c, &a) {
+                kept.push(one(&c, &a));
             }
         }
     }

@@ -443,7 +443,18 @@ fn ring(l: &[u8]) -> Option<model::loops::Ring> {
     model::loops::read_loop(l).ok()?.judge_ring().ok()
 }
 
+/// The full loop's positions, into room of every length about 36.
+fn full_positions(t: &mut Tally) {
+    for room in 0..=48 {
+        t.put(Export::FullPositions, vec![Arg::OutFloats(blank_floats(room))]);
+    }
+    for room in [100, 1_000, 10_000] {
+        t.put(Export::FullPositions, vec![Arg::OutFloats(blank_floats(room))]);
+    }
+}
+
 pub fn triangles(t: &mut Tally, r: &mut Random, n: usize) {
+    full_positions(t);
     for _ in 0..n {
         let len = shapes::length(r).min(if r.chance(6) { 512 } else { 100 });
         let l = some_loop(r, len);

@@ -1,4 +1,4 @@
-//! Runs over scenes: whole ones, and damaged in every way that document 01 names.
+//! Runs over scenes: whole ones, and damaged in every way that SCOPE 29 names.
 use crate::calls::{Answer, Arg, Call, Export, blank, by_model};
 use crate::pairs::two_lists;
 use crate::port::emulator;
@@ -191,7 +191,7 @@ fn scene(r: &mut Random) -> (&'static str, Vec<u8>) {
     (how, b)
 }
 
-/// Document 01's example cut at every byte, and with each bit of it changed.
+/// The worked example (SCOPE 38) cut at every byte, and with each bit of it changed.
 fn every_byte() -> Vec<(&'static str, Vec<u8>)> {
     let (x, y, z) = ([1.0, 0.0, 0.0], [0.0, 1.0, 0.0], [0.0, 0.0, 1.0]);
     let places = [place(1, [0.48, 0.6, 0.64]), place(1, [0.6, 0.0, 0.8])].concat();

@@ -82,10 +82,15 @@ fn same(call: &Call, ours: &Answer, port: &Answer) -> bool {
     }
 }
 
-/// Whether an argument of an arctangent is a zero or an infinity, and none a NaN.
+/// Whether an argument of an arctangent is a zero or an infinity, or a NaN: there the port must have the Rust's bits.
 fn exact(args: &[Arg]) -> bool {
-    let f: Vec<f64> = args.iter().map(|a| f64::from_bits(a.word())).collect();
-    f.iter().any(|x| *x == 0.0 || x.is_infinite()) && !f.iter().any(|x| x.is_nan())
+    args.iter().map(|a| f64::from_bits(a.word())).any(|x| x == 0.0 || x.is_infinite() || x.is_nan())
+}
+
+/// Whether the arguments of an arctangent are a zero and a NaN, where the definition gives the zero and the Rust NaN.
+fn zero_of_nan(args: &[Arg]) -> bool {
+    let [y, x] = args else { return false };
+    f64::from_bits(y.word()) == 0.0 && f64::from_bits(x.word()).is_nan()
 }
 
 fn show_arg(a: &Arg) -> String {
@@ -201,9 +206,20 @@ impl Tally {
             _ => return,
         };
         let ours = f64::from_bits(port.value);
-        if call.export == Export::Atan2 && exact(&call.args) && ours.to_bits() != rust.to_bits() {
-            let rust = Answer { value: rust.to_bits(), outs: Vec::new() };
-            self.differ(call, "not the Rust's bits at a zero or an infinity", &rust, port);
+        if call.export == Export::Atan2 && exact(&call.args) {
+            let mut bits = model::leaves::bits(rust);
+            if rust.is_nan() {
+                self.note("arctangents of a NaN");
+            }
+            if zero_of_nan(&call.args) {
+                assert!(rust.is_nan(), "the Rust has a NaN of a zero and a NaN");
+                self.note("of a zero and a NaN: the zero by the definition, a NaN in the Rust");
+                bits = call.args[0].word();
+            }
+            if port.value != bits {
+                let expected = Answer { value: bits, outs: Vec::new() };
+                self.differ(call, "not the Rust's bits at a zero, an infinity or a NaN", &expected, port);
+            }
         }
         if !(rust.is_finite() && ours.is_finite()) {
             return;

@@ -1,4 +1,4 @@
-//! The port's own arctangent, read from its definition (DESIGN part 5): Euler's series, 49 terms, two at a time.
+//! The port's own arctangent, read from its definition (crates/angle/specs/Arctan, SCOPE 6): Euler's series, 49 terms, two at a time.
 //! It is here so that a loop's direction and marks are fixed where the Rust's own turn sum is near a border.
 
 const QUARTER: f64 = f64::from_bits(0x3fe921fb54442d18);

@@ -1,5 +1,5 @@
-//! Cutting a ring into triangles of ring numbers, and the checker. A place is eligible as document 01 says:
-//! "its class is convex and no ring vertex of another class is inside or on an edge of (previous, this, next)".
+//! Cutting a ring into triangles of ring numbers, and the checker (SCOPE 16, 17, 20). An index is eligible if its class is
+//! convex and no corner of another class is inside or on an edge of (previous, this, next).
 use crate::loops::{EMPTY, FULL, Ring, read_loop, take_loop};
 use crate::read::{Judged, answer, refuse_if};
 use jord::NVector;
@@ -99,6 +99,30 @@ pub fn triangles_checked(ring: &Ring) -> Option<Vec<Triple>> {
     let by_position: Vec<_> = ours.iter().flatten().map(|t| (at(t[0]), at(t[1]), at(t[2]))).collect();
     assert_eq!(sloop::ear_clipping(&ring.vertices), by_position, "the triangles are the source's");
     ours
+}
+
+/// The 12 positions of the full loop, as the source's faces name them: top, upper ring, lower ring, bottom.
+pub fn full_positions() -> &'static [NVector] {
+    static POSITIONS: std::sync::OnceLock<Vec<NVector>> = std::sync::OnceLock::new();
+    POSITIONS.get_or_init(|| {
+        let faces = sloop::icosahedron();
+        let mut vs = vec![faces[0].0];
+        vs.extend(faces[0..5].iter().map(|f| f.1));
+        vs.extend(faces[10..15].iter().map(|f| f.0));
+        vs.push(faces[15].2);
+        vs
+    })
+}
+
+pub fn desk_full_positions(out: &mut [f64]) -> u32 {
+    answer((|| {
+        refuse_if(out.len() < 36, 5)?;
+        for (c, p) in out.chunks_mut(3).zip(full_positions()) {
+            let v = p.as_vec3();
+            c.copy_from_slice(&[v.x(), v.y(), v.z()]);
+        }
+        Ok(12)
+    })())
 }
 
 /// FULL's 20 triples over the 12 positions.

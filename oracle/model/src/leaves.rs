@@ -30,8 +30,8 @@ fn operands(input: &[f64]) -> Operands {
     Operands { a: vec3(&input[0..3]), b: vec3(&input[3..6]), c: vec3(&input[6..9]) }
 }
 
-/// The midpoint that stands in (document 01, "the unit vector of start plus end stands in (added), with no
-/// midpoint where the ends are antipodes or that vector is zero").
+/// The midpoint that stands in (SCOPE 3): the unit vector of start plus end, and none where the ends are antipodes or that
+/// vector is zero.
 pub fn midpoint(a: NVector, b: NVector) -> Option<NVector> {
     let (v, w) = (a.as_vec3(), b.as_vec3());
     let m = Vec3::new_unit(v.x() + w.x(), v.y() + w.y(), v.z() + w.z());

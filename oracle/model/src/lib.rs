@@ -1,6 +1,6 @@
-//! Document 01 read over the unchanged Rust: one function per export of the desk, plain, with all refusals in
-//! their order. What the source says is asked of the source (`jord`); only what document 01 marks as added
-//! (refusals, ring numbers, the checker, the midpoint that stands in, the arctangent, the scene) is written here.
+//! docs/SCOPE.md read over the unchanged Rust: one function per export of the desk, plain, with all refusals in
+//! their order (`SCOPE 7` is its rule 7). What the source says is asked of the source (`jord`); only what is marked as added
+//! there (refusals, ring numbers, the checker, the midpoint that stands in, the arctangent, the scene) is written here.
 
 pub mod angle;
 pub mod arcs;
@@ -16,7 +16,7 @@ pub mod scene;
 pub use arcs::{desk_arc, desk_arc_contains, desk_arc_intersection, desk_arc_opposite, desk_arc_relate, desk_arc_side};
 pub use ask::{desk_convex, desk_equivalent, desk_on_edge, desk_place, desk_place_f64, desk_simple, desk_vertex};
 pub use build::{desk_build, desk_build_f64};
-pub use cut::{desk_accepts, desk_triangles, desk_triangles_f64};
+pub use cut::{desk_accepts, desk_full_positions, desk_triangles, desk_triangles_f64};
 pub use leaves::{desk_atan2, desk_root, leaf_cap, leaf_case, leaf_number, leaf_vec};
 pub use pair::{desk_pair, desk_pair_f64};
 pub use scene::desk_scene;

@@ -1,4 +1,4 @@
-//! Two loops related. The source decides; where it would need a midpoint the stand-in of document 01 takes its
+//! Two loops related. The source decides; where it would need a midpoint that of SCOPE 3 takes its
 //! place, and the pair is outside the domain.
 use crate::ask::judge_two;
 use crate::leaves::midpoint;

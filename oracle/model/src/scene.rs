@@ -1,4 +1,4 @@
-//! The scene program as a function from bytes to text (document 01, "The scene program").
+//! The scene program as a function from bytes to text (SCOPE 28 to 30).
 use crate::ask::{INSIDE, MUTE, placed};
 use crate::build::{Built, build, judge_list};
 use crate::cut::triangles_checked;
@@ -162,7 +162,7 @@ pub fn scene(input: &[u8]) -> (String, bool) {
     (s.text, s.outside)
 }
 
-/// The same into a lent buffer: the number of bytes written. Not part of DESIGN's table; 5 if it does not fit.
+/// The same into a lent buffer: the number of bytes written; 5 if it does not fit. The port has no such export.
 pub fn desk_scene(input: &[u8], out: &mut [u8]) -> u32 {
     let text = scene(input).0;
     if out.len() < text.len() {
@@ -187,7 +187,7 @@ mod tests {
         b
     }
 
-    /// Document 01's own example.
+    /// The worked example (SCOPE 38).
     #[test]
     fn worked_example() {
         let (x, y, z) = ([1.0, 0.0, 0.0], [0.0, 1.0, 0.0], [0.0, 0.0, 1.0]);

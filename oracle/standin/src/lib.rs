@@ -58,6 +58,7 @@ stand! {
          lent(h2, hn2), lent(p2, pn2), lent(q2, qn2), lent(c2, cn2)) -> u32;
     desk_triangles_f64 [h: B, hn: N, p: F, pn: N, c: B, cn: N, o: OH, m: N]
         (lent(h, hn), lent(p, pn), lent(c, cn), lent_mut(o, m)) -> u32;
+    desk_full_positions [o: OF, m: N] (lent_mut(o, m)) -> u32;
     leaf_vec [op: u32, a: F, n: N, o: OF, m: N] (op, lent(a, n), lent_mut(o, m)) -> u32;
     leaf_number [op: u32, a: F, n: N] (op, lent(a, n)) -> u64;
     leaf_case [op: u32, a: F, n: N] (op, lent(a, n)) -> u32;

@@ -1,0 +1,181 @@
+/* Every constant of desk.h met in an answer of the library, and every size both enough and, by one less, too little. Prints what is not
+   so and fails. Floats go to bytes as they stand: it runs on little-endian machines alone. */
+#include "desk.h"
+#include <stdio.h>
+
+#define T 0.5773502691896258
+#define A 0.816496580927726
+#define B 0.408248290463863
+
+typedef struct {
+    uint8_t bytes[DESK_MOST_LOOP_BYTES];
+    size_t size;
+} Loop;
+
+static const double octant[] = {1, 0, 0, 0, 1, 0, 0, 0, 1}, below[] = {1, 0, 0, 0, 1, 0, 0, 0, -1};
+static const double square[] = {0.6, 0, 0.8, 0, 0.6, 0.8, -0.6, 0, 0.8, 0, -0.6, 0.8};
+static const double turned[] = {0.48, 0.36, 0.8, -0.36, 0.48, 0.8, -0.48, -0.36, 0.8, 0.36, -0.48, 0.8};
+static const double small[] = {0.28, 0, 0.96, 0, 0.28, 0.96, -0.28, 0, 0.96, 0, -0.28, 0.96};
+static const double south[] = {0.6, 0, -0.8, 0, 0.6, -0.8, -0.6, 0, -0.8, 0, -0.6, -0.8};
+static const double dart[] = {0.6, 0, 0.8, 0, 0.6, 0.8, -0.6, 0, 0.8, 0, 0.28, 0.96};
+static const double straight[] = {1, 0, 0, 0.6, 0.8, 0, 0, 1, 0, 0, 0, 1};
+static const double eight[] = {A, B, B, A, -B, -B, A, -B, B, A, B, -B};
+static const double silent[] = {-T, T, -T, 1, 0, 0, -T, -T, T, T, -T, T};
+static const double one[] = {-0.8, 0, -0.6, 1, 0, 0, 0.64, -0.48, 0.6}, two[] = {0, -1, 0, 0, 0, 1, 1, 0, 0};
+static const double longer[] = {2, 0, 0}, across[] = {0.36, 0.48, 0.8, 0.36, 0.48, -0.8};
+
+static int wrong = 0;
+static Loop loop, other;
+static uint8_t out[DESK_MOST_LOOP_BYTES];
+
+static void hold(const char *what, unsigned long answer, unsigned long wanted) {
+    if (answer == wanted)
+        return;
+    printf("codes: %s is %lu, and not %lu\n", what, answer, wanted);
+    wrong = 1;
+}
+#define HOLD(answer, wanted) hold(#answer, (unsigned long)(answer), (unsigned long)(wanted))
+
+#define BYTES(list) (const uint8_t *)(list)
+#define LIST(list) BYTES(list), sizeof(list)
+#define LOOP(l) (l).bytes, (l).size
+
+static void build(Loop *l, const double *list, size_t n) {
+    uint32_t corners = desk_build(BYTES(list), DESK_LIST_BYTES(n), l->bytes, sizeof l->bytes);
+    if (DESK_IS_REFUSED(corners)) {
+        printf("codes: a list is refused %u\n", (unsigned)(corners - DESK_REFUSED));
+        wrong = 1;
+    }
+    l->size = DESK_LOOP_BYTES(corners);
+}
+#define BUILD(l, list) build(&(l), list, sizeof(list) / DESK_POSITION_BYTES)
+
+static unsigned class_at(size_t n, size_t i) { return loop.bytes[DESK_HEADER_BYTES + 2 * DESK_LIST_BYTES(n) + i]; }
+
+static void headers(void) {
+    BUILD(loop, octant);
+    HOLD(loop.bytes[2], DESK_STATE_RING);
+    HOLD(loop.bytes[3], DESK_MARK_REVERSED);
+    HOLD(class_at(3, 0), DESK_CLASS_CONVEX);
+    BUILD(loop, square);
+    HOLD(loop.bytes[3], DESK_MARK_REVERSED + DESK_MARK_INSIDES);
+    BUILD(loop, eight);
+    HOLD(loop.bytes[3] & DESK_MARK_WEAK, DESK_MARK_WEAK);
+    BUILD(loop, dart);
+    HOLD(class_at(4, 0), DESK_CLASS_REFLEX); /* the last of the list, which was reversed */
+    BUILD(loop, straight);
+    HOLD(class_at(4, 2), DESK_CLASS_BOTH);
+    build(&loop, NULL, 0);
+    HOLD(loop.bytes[2], DESK_STATE_EMPTY);
+    build(&loop, straight, 3);
+    HOLD(loop.bytes[2], DESK_STATE_FULL);
+}
+
+static void places(void) {
+    BUILD(loop, octant);
+    HOLD(desk_place(LOOP(loop), BYTES(straight + 3), 24), DESK_PLACE_OUTSIDE);
+    HOLD(desk_vertex(LOOP(loop), BYTES(octant), 24), DESK_YES);
+    HOLD(desk_vertex(LOOP(loop), BYTES(square), 24), DESK_NO);
+    HOLD(desk_on_edge(LOOP(loop), BYTES(square), 24), DESK_YES);
+    HOLD(desk_convex(LOOP(loop)), DESK_YES);
+    HOLD(desk_simple(LOOP(loop)), DESK_YES);
+    BUILD(loop, square);
+    HOLD(desk_place(LOOP(loop), BYTES(octant + 6), 24), DESK_PLACE_INSIDE);
+    BUILD(loop, silent);
+    HOLD(desk_place(LOOP(loop), BYTES(octant), 24), DESK_PLACE_MUTE);
+}
+
+static void pair(const double *a, size_t n, const double *b, size_t m, uint32_t wanted) {
+    build(&loop, a, n);
+    build(&other, b, m);
+    HOLD(desk_pair(LOOP(loop), LOOP(other)), wanted);
+    HOLD(desk_equivalent(LOOP(loop), LOOP(other)), wanted == DESK_PAIR_EQUAL ? DESK_YES : DESK_NO);
+}
+
+static void pairs(void) {
+    pair(square, 4, south, 4, DESK_PAIR_DISJOINT);
+    pair(octant, 3, below, 3, DESK_PAIR_TOUCHING);
+    pair(square, 4, turned, 4, DESK_PAIR_INTERSECTING);
+    pair(square, 4, small, 4, DESK_PAIR_CONTAINING);
+    pair(small, 4, square, 4, DESK_PAIR_WITHIN);
+    pair(square, 4, square, 4, DESK_PAIR_EQUAL);
+    pair(one, 3, two, 3, DESK_REFUSED_BOTH_WAYS);
+}
+
+static void arcs(void) {
+    uint8_t a[DESK_ARC_BYTES], b[DESK_ARC_BYTES];
+    HOLD(desk_arc(BYTES(octant), 24, BYTES(octant + 3), 24, a, DESK_ARC_BYTES - 1), DESK_REFUSED_ROOM);
+    HOLD(desk_arc(BYTES(octant), 24, BYTES(octant + 3), 24, a, DESK_ARC_BYTES), 0);
+    HOLD(desk_arc_side(a, sizeof a, BYTES(straight + 3), DESK_POSITION_BYTES), DESK_SIDE_COLLINEAR);
+    HOLD(desk_arc_side(a, sizeof a, BYTES(octant + 6), DESK_POSITION_BYTES), DESK_SIDE_LEFT);
+    HOLD(desk_arc_side(a, sizeof a, BYTES(below + 6), DESK_POSITION_BYTES), DESK_SIDE_RIGHT);
+    HOLD(desk_arc_contains(a, sizeof a, BYTES(straight + 3), DESK_POSITION_BYTES), DESK_YES);
+    HOLD(desk_arc_relate(a, sizeof a, a, sizeof a, out, DESK_ARC_BYTES - 1), DESK_REFUSED_ROOM);
+    HOLD(desk_arc_relate(a, sizeof a, a, sizeof a, out, DESK_ARC_BYTES), DESK_ARCS_OVERLAPPING);
+    HOLD(desk_arc_opposite(a, sizeof a, b, sizeof b), 0);
+    HOLD(desk_arc(BYTES(across), 24, BYTES(across + 3), 24, b, sizeof b), 0);
+    HOLD(desk_arc_intersection(a, sizeof a, b, sizeof b, out, DESK_POSITION_BYTES - 1), DESK_REFUSED_ROOM);
+    HOLD(desk_arc_intersection(a, sizeof a, b, sizeof b, out, DESK_POSITION_BYTES), DESK_YES);
+    HOLD(desk_arc_relate(a, sizeof a, b, sizeof b, out, DESK_POSITION_BYTES), DESK_ARCS_INTERSECTING);
+    HOLD(desk_arc(BYTES(octant), 24, BYTES(octant + 6), 24, b, sizeof b), 0);
+    HOLD(desk_arc_relate(a, sizeof a, b, sizeof b, out, DESK_POSITION_BYTES), DESK_ARCS_TOUCHING);
+    HOLD(desk_arc(BYTES(square), 24, BYTES(octant + 6), 24, b, sizeof b), 0);
+    HOLD(desk_arc_relate(a, sizeof a, b, sizeof b, NULL, 0), DESK_ARCS_DISJOINT);
+}
+
+static void refusals(void) {
+    static uint8_t many[DESK_LIST_BYTES(DESK_MOST_POSITIONS + 1u)];
+    double nothing[3] = {0, 0, 0}, nan[3];
+    nan[0] = nan[1] = nan[2] = nothing[0] / nothing[1];
+    HOLD(desk_build(many, DESK_LIST_BYTES(DESK_MOST_POSITIONS + 1u), out, sizeof out), DESK_REFUSED_MANY);
+    HOLD(desk_build(many, DESK_LIST_BYTES(DESK_MOST_POSITIONS), out, sizeof out), DESK_REFUSED_NOT_UNIT);
+    HOLD(desk_build(LIST(nan), out, sizeof out), DESK_REFUSED_NOT_FINITE);
+    HOLD(desk_build(LIST(longer), out, sizeof out), DESK_REFUSED_NOT_UNIT);
+    HOLD(desk_build(BYTES(octant), 23, out, sizeof out), DESK_REFUSED_SHAPE);
+    BUILD(loop, silent);
+    HOLD(desk_triangles(LOOP(loop), out, sizeof out), DESK_REFUSED_NO_EAR);
+    build(&loop, NULL, 0);
+    HOLD(desk_accepts(LOOP(loop), NULL, 0), DESK_REFUSED_NO_RING);
+    BUILD(loop, octant);
+    loop.bytes[loop.size - 1] = 3;
+    HOLD(desk_convex(LOOP(loop)), DESK_REFUSED_CLASS);
+}
+
+static void sizes(void) {
+    double floats[DESK_FULL_POSITIONS_FLOATS], ps[DESK_LIST_FLOATS(4)], ns[DESK_LIST_FLOATS(4)];
+    uint16_t numbers[DESK_FULL_TRIANGLES_NUMBERS];
+    uint8_t header[DESK_HEADER_BYTES], classes[4];
+    HOLD(DESK_MOST_LOOP_BYTES, DESK_LOOP_BYTES(DESK_MOST_POSITIONS));
+    HOLD(DESK_MOST_TRIANGLES_BYTES, DESK_TRIANGLES_BYTES(DESK_MOST_POSITIONS));
+    HOLD(desk_build(NULL, 0, out, DESK_HEADER_BYTES - 1), DESK_REFUSED_ROOM);
+    HOLD(desk_build(NULL, 0, out, DESK_HEADER_BYTES), 0);
+    HOLD(desk_build(LIST(square), out, DESK_LOOP_BYTES(4u) - 1), DESK_REFUSED_ROOM);
+    HOLD(desk_build(LIST(square), out, DESK_LOOP_BYTES(4u)), 4);
+    HOLD(desk_build_f64(square, DESK_LIST_FLOATS(4), header, DESK_HEADER_BYTES, ps, DESK_LIST_FLOATS(4), ns, DESK_LIST_FLOATS(4), classes, 4), 4);
+    HOLD(desk_triangles_f64(header, sizeof header, ps, 12, classes, 4, numbers, DESK_TRIANGLES_NUMBERS(4u) - 1), DESK_REFUSED_ROOM);
+    HOLD(desk_triangles_f64(header, sizeof header, ps, 12, classes, 4, numbers, DESK_TRIANGLES_NUMBERS(4u)), DESK_TRIANGLES(4u));
+    HOLD(desk_place_f64(header, sizeof header, ps, 12, ns, 12, classes, 4, 0, 0, 1), DESK_PLACE_INSIDE);
+    HOLD(desk_pair_f64(header, sizeof header, ps, 12, ns, 12, classes, 4, header, sizeof header, ps, 12, ns, 12, classes, 4), DESK_PAIR_EQUAL);
+    BUILD(loop, square);
+    HOLD(desk_triangles(LOOP(loop), out, DESK_TRIANGLES_BYTES(4u) - 1), DESK_REFUSED_ROOM);
+    HOLD(desk_triangles(LOOP(loop), out, DESK_TRIANGLES_BYTES(4u)), DESK_TRIANGLES(4u));
+    HOLD(desk_accepts(LOOP(loop), out, DESK_TRIANGLES_BYTES(4u)), DESK_YES);
+    build(&loop, straight, 3);
+    HOLD(desk_triangles(LOOP(loop), out, DESK_FULL_TRIANGLES_BYTES - 1), DESK_REFUSED_ROOM);
+    HOLD(desk_triangles(LOOP(loop), out, DESK_FULL_TRIANGLES_BYTES), DESK_FULL_TRIANGLES);
+    HOLD(desk_triangles_f64(loop.bytes, DESK_HEADER_BYTES, NULL, 0, NULL, 0, numbers, DESK_FULL_TRIANGLES_NUMBERS), DESK_FULL_TRIANGLES);
+    HOLD(desk_full_positions(floats, DESK_FULL_POSITIONS_FLOATS - 1), DESK_REFUSED_ROOM);
+    HOLD(desk_full_positions(floats, DESK_FULL_POSITIONS_FLOATS), DESK_FULL_POSITIONS);
+    HOLD(desk_root(0x4010000000000000u), 0x4000000000000000u);
+    HOLD(desk_atan2(0x8000000000000000u, 0x7ff8000000000001u), 0x8000000000000000u);
+}
+
+int main(void) {
+    headers();
+    places();
+    pairs();
+    arcs();
+    refusals();
+    sizes();
+    return wrong;
+}

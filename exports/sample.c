@@ -1,0 +1,147 @@
+/* A whole program over desk.h, plain C99 and C++: two areas are built, asked, compared and cut, and then come a refusal,
+   a ring that is mute, and a full loop. What it prints is exports/sample.txt. */
+#include "desk.h"
+#include <stdio.h>
+#include <string.h>
+
+/* A loop with room for 16 corners, and how many of its bytes are in use. */
+#define CORNERS 16u
+typedef struct {
+    uint8_t bytes[DESK_LOOP_BYTES(CORNERS)];
+    size_t size;
+} Area;
+
+/* What a refusal means, or null where the answer is none. */
+static const char *refusal(uint32_t answer) {
+    if (!DESK_IS_REFUSED(answer))
+        return NULL;
+    switch (answer) {
+    case DESK_REFUSED_SHAPE: return "a length or a count does not fit";
+    case DESK_REFUSED_MANY: return "more than 512 positions";
+    case DESK_REFUSED_NOT_FINITE: return "a component is NaN or infinite";
+    case DESK_REFUSED_NOT_UNIT: return "a position is not a unit vector";
+    case DESK_REFUSED_ROOM: return "an output is too short";
+    case DESK_REFUSED_CLASS: return "a class above 2";
+    case DESK_REFUSED_BOTH_WAYS: return "each loop is found in the other";
+    case DESK_REFUSED_NO_EAR: return "the ring cannot be cut";
+    case DESK_REFUSED_NO_RING: return "an empty or full loop has no triangles to check";
+    default: return "a refusal that this program does not know";
+    }
+}
+
+/* Prints the refusal and says whether there was one. */
+static int refused(const char *what, uint32_t answer) {
+    const char *why = refusal(answer);
+    if (why != NULL)
+        printf("%s: refused %u, %s\n", what, (unsigned)(answer - DESK_REFUSED), why);
+    return why != NULL;
+}
+
+/* Doubles of this machine as little-endian bytes. */
+static void put_floats(uint8_t *to, const double *from, size_t n) {
+    size_t i, k;
+    for (i = 0; i < n; i++) {
+        uint64_t bits;
+        memcpy(&bits, &from[i], sizeof bits);
+        for (k = 0; k < 8; k++)
+            to[8 * i + k] = (uint8_t)(bits >> (8 * k));
+    }
+}
+
+static const char *state(const uint8_t *loop) {
+    unsigned corners = loop[0] + 256u * loop[1];
+    if (loop[2] == DESK_STATE_EMPTY)
+        return "empty";
+    if (loop[2] == DESK_STATE_FULL)
+        return "full";
+    return corners > 3 && !(loop[3] & DESK_MARK_INSIDES) ? "mute ring" : "ring";
+}
+
+/* Builds an area of at most CORNERS positions; 1 where there is one. */
+static int build(const char *name, Area *area, const double *list, size_t n) {
+    uint8_t bytes[DESK_LIST_BYTES(CORNERS)];
+    uint32_t corners;
+    if (n > CORNERS)
+        return 0;
+    put_floats(bytes, list, DESK_LIST_FLOATS(n));
+    corners = desk_build(bytes, DESK_LIST_BYTES(n), area->bytes, sizeof area->bytes);
+    if (refused(name, corners))
+        return 0;
+    area->size = DESK_LOOP_BYTES(corners);
+    printf("%s: %s of %u corners, %s, %s\n", name, state(area->bytes), (unsigned)corners,
+           area->bytes[3] & DESK_MARK_REVERSED ? "reversed" : "kept",
+           area->bytes[3] & DESK_MARK_WEAK ? "weak" : "steady");
+    return 1;
+}
+
+static void place(const char *name, const Area *area, double x, double y, double z) {
+    static const char *const words[] = {"outside", "inside", "mute: the area cannot tell"};
+    const double p[3] = {x, y, z};
+    uint8_t bytes[DESK_POSITION_BYTES];
+    uint32_t answer;
+    put_floats(bytes, p, 3);
+    answer = desk_place(area->bytes, area->size, bytes, sizeof bytes);
+    if (!refused(name, answer))
+        printf("%s: (%g, %g, %g) is %s\n", name, x, y, z, words[answer]);
+}
+
+static void relate(const char *name, const Area *a, const Area *b) {
+    static const char *const words[] = {"disjoint", "touching", "intersecting", "containing", "within", "equal"};
+    uint32_t answer = desk_pair(a->bytes, a->size, b->bytes, b->size);
+    if (!refused(name, answer))
+        printf("%s: %s\n", name, words[answer]);
+}
+
+/* Cuts an area, has the cut checked, and prints the triangles. */
+static void cut(const char *name, const Area *area) {
+    uint8_t out[DESK_MOST_TRIANGLES_BYTES];
+    uint32_t i, n = desk_triangles(area->bytes, area->size, out, sizeof out);
+    if (refused(name, n))
+        return;
+    printf("%s: triangles %u, accepted %s:", name, (unsigned)n,
+           desk_accepts(area->bytes, area->size, out, 6u * n) == DESK_YES ? "yes" : "no");
+    for (i = 0; i < n; i++) {
+        const uint8_t *t = out + 6 * i;
+        printf(" %u-%u-%u", t[0] + 256u * t[1], t[2] + 256u * t[3], t[4] + 256u * t[5]);
+    }
+    printf("\n");
+}
+
+/* A full loop's triangles number twelve positions of the library. */
+static void cut_full(const Area *area) {
+    uint8_t out[DESK_FULL_TRIANGLES_BYTES];
+    double positions[DESK_FULL_POSITIONS_FLOATS];
+    const double *p;
+    uint32_t n = desk_triangles(area->bytes, area->size, out, sizeof out);
+    if (refused("full", n) || refused("full", desk_full_positions(positions, DESK_FULL_POSITIONS_FLOATS)))
+        return;
+    p = positions + 3 * out[6 * (n - 1)];
+    printf("full: triangles %u, the last one starts at (%.3f, %.3f, %.3f)\n", (unsigned)n, p[0], p[1], p[2]);
+}
+
+int main(void) {
+    static const double first[] = {1, 0, 0, 0, 1, 0, 0, 0, 1}, second[] = {1, 0, 0, 0, 1, 0, 0, 0, -1};
+    static const double square[] = {0.6, 0, 0.8, 0, 0.6, 0.8, -0.6, 0, 0.8, 0, -0.6, 0.8};
+    static const double longer[] = {1, 0, 0, 0, 2, 0, 0, 0, 1}, whole[] = {1, 0, 0, 0.6, 0.8, 0, 0, 1, 0};
+    const double t = 0.5773502691896258;
+    const double silent[] = {-t, t, -t, 1, 0, 0, -t, -t, t, t, -t, t};
+    static Area a, b, c, mute, full;
+    if (build("area 1", &a, first, 3) && build("area 2", &b, second, 3)) {
+        place("area 1", &a, 0.48, 0.6, 0.64);
+        place("area 1", &a, 0.6, 0.0, 0.8);
+        place("area 1", &a, 0.6, 0.8, 0.8);
+        relate("area 1 to area 2", &a, &b);
+        cut("area 1", &a);
+    }
+    if (build("square", &c, square, 4))
+        cut("square", &c);
+    build("too long", &c, longer, 3);
+    if (build("silent", &mute, silent, 4))
+        place("silent", &mute, 0.6, 0.0, 0.8);
+    if (build("full", &full, whole, 3)) {
+        place("full", &full, 0.6, 0.0, 0.8);
+        cut_full(&full);
+    }
+    refused("short", desk_full_positions(NULL, 0));
+    return 0;
+}

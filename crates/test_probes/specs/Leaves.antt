@@ -17,7 +17,7 @@ use Rattle.vec3.specs.Vec.{vec, unitVec, unit, cross, crossUnit, stableUnit, or
 use Rattle.vec3.specs.Points.{triangleMean, midpoint}
 use Rattle.base.specs.declared.Side.{Side}
 use Rattle.base.specs.declared.Side.the-variants.{Left, Right, Collinear}
-use Rattle.base.specs.Sides.{sideOf}
+use Rattle.base.specs.Sides.{sideCode, sideOf}
 use Rattle.base.specs.Turns.{sineOf, turningAngle}
 use Rattle.chord_length.specs.Chords.{squared, chord, sum}
 use Rattle.cap.specs.declared.Cap.{Cap}
@@ -70,9 +70,7 @@ yes false = 0
 yes true = 1
 
 abbrev pub sideNo : Side → ℕ
-sideNo Collinear = 0
-sideNo Left = 1
-sideNo Right = 2
+sideNo s = L.unsigned (sideCode s)
 
 abbrev pub present : Point → ℕ
 present Absent = 0

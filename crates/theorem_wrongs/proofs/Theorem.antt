@@ -154,13 +154,14 @@ traps = record {
 }
 
 of-numbers : OfNumbers
-unfolding Computing.of-sides faultOf vectorFault midpoint toBits
+unfolding Computing.of-sides Computing.of-turns faultOf vectorFault midpoint toBits
 of-numbers = record {
   side-turned = λ e. below 0 1 0 refl (ap side e);
   strict-equality = λ e. above 1 0 0 refl (ap sure e);
   root-cut-off = λ e. above 0x3ff6_a09e_667f_3bcd 0x3ff6_a09e_667f_3bcc 0 refl (ap (toBits binary64) e);
   upper-end-left-out = λ e. below 0 4 3 refl e;
   last-component-passed-over = λ e. above 3 0 2 refl e;
+  arctangent-exchanged = λ e. above 0x3ff9_21fb_5444_2d18 0 0x3ff9_21fb_5444_2d17 refl (ap (toBits binary64) e);
   midpoint-of-antipodes = λ p e. below 0 1 0 refl (ap there e);
   midpoint-without-length = λ p e. below 0 1 0 refl (ap there e);
 }

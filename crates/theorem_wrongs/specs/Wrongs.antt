@@ -12,6 +12,7 @@ use Rattle.numbers.specs.F64 as F64
 use Rattle.numbers.specs.F64.{two, epsilon}
 use Rattle.numbers.specs.Near.{near}
 use Rattle.root.specs.Root.{rootOf}
+use Rattle.angle.specs.Arctan.{atan2}
 use Rattle.vec3.specs.declared.Vec3.{Vec3}
 use Rattle.vec3.specs.declared.Insides.the-variants.{Two}
 use Rattle.vec3.specs.declared.Point.the-variants.{At}
@@ -187,6 +188,8 @@ pub record OfNumbers : Type 0 where
   pub upper-end-left-out : faultOf (at just-within F64.zero F64.zero) ≡ 4 → ⊥
   -- a judge of normals that passes over the last component
   pub last-component-passed-over : vectorFault (at F64.zero F64.zero nan) 0 ≡ 0 → ⊥
+  -- an arctangent whose operands are exchanged
+  pub arctangent-exchanged : atan2 F64.one F64.zero ≡ atan2 F64.zero F64.one → ⊥
   -- a midpoint of antipodes, and one whose vector is zero though its ends are none
   pub midpoint-of-antipodes : (p : Vec3) → midpoint axis-x (opposite axis-x) ≡ At p → ⊥
   pub midpoint-without-length : (p : Vec3) → midpoint axis-x (at (ofBits binary64 0xbff0_0000_0000_0000) tiny F64.zero) ≡ At p → ⊥

@@ -173,7 +173,7 @@ fn damage_once(r: &mut Random, b: &mut Vec<u8>) {
     }
     let n = if b.len() == HEADER + 49 * count(b) { count(b) } else { 0 };
     let set = |b: &mut Vec<u8>, at: usize, f: f64| b[at..at + 8].copy_from_slice(&f.to_le_bytes());
-    match r.below(17) {
+    match r.below(18) {
         0 => b[2] = *r.pick(&[0, 1, 2, 3, 255]),
         1 => b[3] ^= 1 << r.below(8),
         2 => b[3] ^= 4,

@@ -118,7 +118,8 @@ uint32_t desk_build(const uint8_t *list, size_t list_len, uint8_t *out, size_t o
    desk_vertex and desk_on_edge tell of the border. Refuses: the loop's, then the position's. */
 uint32_t desk_place(const uint8_t *loop, size_t loop_len, const uint8_t *position, size_t position_len);
 
-/* DESK_PAIR_..: how a stands to b. A mute loop contains nothing here.
+/* DESK_PAIR_..: how a stands to b. A mute loop contains nothing here, and which side of a weak one is inside hangs on
+   rounding: with either the answer tells nothing sure, DESK_PAIR_DISJOINT least of all.
    Refuses: those of a, those of b, BOTH_WAYS. */
 uint32_t desk_pair(const uint8_t *a, size_t a_len, const uint8_t *b, size_t b_len);
 

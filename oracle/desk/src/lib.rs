@@ -120,7 +120,8 @@ impl Display for Place {
     }
 }
 
-/// How two loops stand to each other.
+/// How two loops stand to each other. With a mute or a weak loop none of these is sure: a mute one contains nothing here, and which side
+/// of a weak one is inside hangs on rounding.
 #[derive(Clone, Copy, Debug, PartialEq, Eq)]
 pub enum Relation {
     /// No point shared.

@@ -1,7 +1,9 @@
 -- What is read from standard input. SCOPE 31: a failed read is not the end of the input. Definitions only.
 use Prim.Native.Nat.{ℕ, _≤_}
 use mathlib.Core.Path.{_≡_}
+use mathlib.Core.Bool.{Bool, false}
 use mathlib.Core.List.{List}
+use lib.Dec.{eqb}
 use lib.ListN.{length, take}
 use lib.IntN.{ℤ, pos, negsuc}
 use Rattle.input.specs.declared.Input.{Input}
@@ -21,3 +23,8 @@ endedOf (negsuc k) done = Failed
 abbrev pub Within : Input → List ℕ → Type 0
 Within (Read n) l = (n ≤ length l) × (n ≡ length (take n l))
 Within Failed l = Unit
+
+-- all of a part of the input whose size is known has come
+abbrev pub isWhole : Input → ℕ → Bool
+isWhole (Read n) size = eqb n size
+isWhole Failed size = false

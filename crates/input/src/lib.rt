@@ -56,10 +56,17 @@ pub fn read(buf: &mut [u8]) -> Input
     Input::Read(done)
 }
 
-// Whether the whole buffer could be read, for a part of the input whose length is known.
-pub fn fill(buf: &mut [u8]) -> bool {
-    match read(buf) {
-        Input::Read(n) => n == buf.len(),
+// Whether as many bytes were read as a part of the input has.
+fn is_whole(got: Input, size: usize) -> bool
+    ensures { λ r. ⌜ r ≡ R.isWhole got size ⌝ }
+{
+    match got {
+        Input::Read(n) => n == size,
         Input::Failed => false,
     }
+}
+
+// Reads a part of the input whose length is known, and answers whether all of it came.
+pub fn fill(buf: &mut [u8]) -> bool {
+    is_whole(read(buf), buf.len())
 }

@@ -86,6 +86,12 @@ seenWith h ps cs = record { state = h .state; count = h .count; reversed = h .re
 abbrev pub seen : Outcome → Seen
 seen o = seenWith (headerOf (o .answer)) (o .positions) (o .classes)
 
+-- the four corners from the last to the first
+abbrev pub four-reversed : List Float
+four-reversed =
+    coords (at zero minus-six-tenths eight-tenths) ++ coords (at minus-six-tenths zero eight-tenths) ++
+    coords (at zero six-tenths eight-tenths) ++ coords (at six-tenths zero eight-tenths)
+
 -- the loop of four corners as built, cut and checked
 abbrev pub four-built : Outcome
 four-built = built four-corners 4
@@ -121,7 +127,7 @@ pub record Settled : Type 0 where
   -- X, (0.6,0.8,0), Y is FULL, its slices as they were
   pub full : built flat-list 3 ≡ kept (loop (fullHeader false)) (blank 3) (blank 3) (blank-classes 3)
   -- (0.6,0,0.8), (0,0.6,0.8), (-0.6,0,0.8), (0,-0.6,0.8) is reversed, and all its corners are convex
-  pub four-ring : seen four-built ≡ record { state = Ring; count = 4; reversed = true; weak = false; corners = coords (at zero minus-six-tenths eight-tenths) ++ coords (at minus-six-tenths zero eight-tenths) ++ coords (at zero six-tenths eight-tenths) ++ coords (at six-tenths zero eight-tenths); classes = 0 ∷ 0 ∷ 0 ∷ 0 ∷ [] }
+  pub four-ring : seen four-built ≡ record { state = Ring; count = 4; reversed = true; weak = false; corners = four-reversed; classes = 0 ∷ 0 ∷ 0 ∷ 0 ∷ [] }
   -- it is cut into (3,0,1), (1,2,3)
   pub four-triangles : four-cut ≡ record { answer = Answers.answer 2; triangles = 3 ∷ 0 ∷ 1 ∷ 1 ∷ 2 ∷ 3 ∷ [] }
   -- the checker accepts that, and also (0,1,2), (0,2,3), but not (0,1,3), (1,2,3)

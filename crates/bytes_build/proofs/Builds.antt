@@ -40,7 +40,11 @@ module _ (l : List Float) (n : ℕ) where
   front-made : (b t : Bool) (ps ns : List Float) (cs : List ℕ) → let m = B.madeIf b l n t ps ns cs in front (m .header) (m .positions) (m .normals) (m .classes) ≡ B.madeIf b l n t [] [] []
   unfolding B.ringHeader
   front-made true t ps ns cs = refl
-  front-made false t ps ns cs = rw (cut (ringOf l n t) ps (3 * n) (size (cornerAt l n t) n), cut (normalsOf l n t) ns (3 * n) (size (normalAt l n t) n), cut (classesOf l n t) cs n (length-flat (λ k. classAt l n t k ∷ []) (λ j. refl) n 0))
+  front-made false t ps ns cs =
+      let corners = cut (ringOf l n t) ps (3 * n) (size (cornerAt l n t) n) in
+      let normals = cut (normalsOf l n t) ns (3 * n) (size (normalAt l n t) n) in
+      let classes = cut (classesOf l n t) cs n (length-flat (λ k. classAt l n t k ∷ []) (λ j. refl) n 0) in
+      rw (corners, normals, classes)
 
   made-count : (b t : Bool) → B.madeIf b l n t [] [] [] .header .count ≤ n
   unfolding B.ringHeader

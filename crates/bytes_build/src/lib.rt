@@ -108,7 +108,9 @@ pub fn build_floats(
     normals: &mut [f64],
     classes: &mut [u8],
 ) -> u32
-    ensures { λ r. ⌜ record { number = r; header = now (header .exit); positions = now (positions .exit); normals = now (normals .exit); classes = now (classes .exit) } ≡ Bu.floatsOutcome (now (list .entry)) (now (header .entry)) (now (positions .entry)) (now (normals .entry)) (now (classes .entry)) ⌝ }
+    ensures { λ r. ⌜
+        record { number = r; header = now (header .exit); positions = now (positions .exit); normals = now (normals .exit); classes = now (classes .exit) }
+        ≡ Bu.floatsOutcome (now (list .entry)) (now (header .entry)) (now (positions .entry)) (now (normals .entry)) (now (classes .entry)) ⌝ }
 {
     if header.len() < HEADER {
         return refusal(judge::first(loop_build::list_fault(list), 5));

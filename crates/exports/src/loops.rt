@@ -127,7 +127,9 @@ pub extern "C" fn desk_pair_f64(
     theirs: &[f64],
     codes: &[u8],
 ) -> u32
-    ensures { λ r. ⌜ r ≡ As.numberOf (Pa.floatsTold (now (header .entry)) (now (positions .entry)) (now (normals .entry)) (now (classes .entry)) (now (other .entry)) (now (others .entry)) (now (theirs .entry)) (now (codes .entry))) ⌝ }
+    ensures { λ r. ⌜ r ≡ As.numberOf (Pa.floatsTold
+        (now (header .entry)) (now (positions .entry)) (now (normals .entry)) (now (classes .entry))
+        (now (other .entry)) (now (others .entry)) (now (theirs .entry)) (now (codes .entry))) ⌝ }
 {
     bytes_pair::pair_floats(
         header,
@@ -149,7 +151,9 @@ pub extern "C" fn desk_build_f64(
     normals: &mut [f64],
     classes: &mut [u8],
 ) -> u32
-    ensures { λ r. ⌜ record { number = r; header = now (header .exit); positions = now (positions .exit); normals = now (normals .exit); classes = now (classes .exit) } ≡ Bu.floatsOutcome (now (list .entry)) (now (header .entry)) (now (positions .entry)) (now (normals .entry)) (now (classes .entry)) ⌝ }
+    ensures { λ r. ⌜
+        record { number = r; header = now (header .exit); positions = now (positions .exit); normals = now (normals .exit); classes = now (classes .exit) }
+        ≡ Bu.floatsOutcome (now (list .entry)) (now (header .entry)) (now (positions .entry)) (now (normals .entry)) (now (classes .entry)) ⌝ }
 {
     bytes_build::build_floats(list, header, positions, normals, classes)
 }

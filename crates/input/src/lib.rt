@@ -31,7 +31,7 @@ fn count(got: isize) -> usize
 }
 
 // What reading came to, by the answer of the call that put nothing after `done` bytes: a failure is not the end.
-pub fn ended(got: isize, done: usize) -> Input
+fn ended(got: isize, done: usize) -> Input
     ensures { λ r. ⌜ r ≡ R.endedOf got done ⌝ }
 {
     if got < 0 {
@@ -40,7 +40,7 @@ pub fn ended(got: isize, done: usize) -> Input
     Input::Read(done)
 }
 
-// Reads until the buffer is full, the input ends or a read fails.
+// Reads until the buffer is full, the input ends or a read fails. No contract can say what a call of the C library put there.
 pub fn read(buf: &mut [u8]) -> Input
     ensures { λ r. ⌜ R.Within r (now (buf .exit)) ⌝ }
 {
@@ -56,17 +56,12 @@ pub fn read(buf: &mut [u8]) -> Input
     Input::Read(done)
 }
 
-// Whether as many bytes were read as a part of the input has.
-fn is_whole(got: Input, size: usize) -> bool
+// Whether all of a part of the input came, whose length is known.
+pub fn is_whole(got: Input, size: usize) -> bool
     ensures { λ r. ⌜ r ≡ R.isWhole got size ⌝ }
 {
     match got {
         Input::Read(n) => n == size,
         Input::Failed => false,
     }
-}
-
-// Reads a part of the input whose length is known, and answers whether all of it came.
-pub fn fill(buf: &mut [u8]) -> bool {
-    is_whole(read(buf), buf.len())
 }

@@ -6,7 +6,7 @@ ghost use lib.ListN.{length, take};
 
 fn read_number() -> usize {
     let mut head = [0u8; 4];
-    if !input::fill(&mut head) {
+    if !input::is_whole(input::read(&mut head), 4) {
         return 0;
     }
     wire::u32_at(&head, 0) as usize
@@ -20,7 +20,7 @@ fn read_part(buf: &mut [u8]) -> usize
     if buf.len() < size {
         return 0;
     }
-    if !input::fill(&mut buf[..size]) {
+    if !input::is_whole(input::read(&mut buf[..size]), size) {
         return 0;
     }
     size

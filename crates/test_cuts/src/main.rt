@@ -104,7 +104,7 @@ fn answer_bytes(n: usize, body: &[u8])
 fn answer_in(n: usize, body: &mut [u8]) -> bool
     requires { ⌜ (3 ≤ n) × (n ≤ 512) × (length (now body) ≡ 25 * n) ⌝ }
 {
-    if !input::fill(body) {
+    if !input::is_whole(input::read(body), body.len()) {
         return false;
     }
     answer_bytes(n, body);
@@ -122,7 +122,7 @@ fn answer(n: usize) -> bool
 // Reads one ring and answers; false at the end, and at a count that no ring has.
 fn answer_one() -> bool {
     let mut head = [0u8; 2];
-    if !input::fill(&mut head) {
+    if !input::is_whole(input::read(&mut head), 2) {
         return false;
     }
     let n = wire::u16_at(&head, 0) as usize;

@@ -1,8 +1,11 @@
--- The number and values of an answer tell it from every other, and so a contract leaves one answer (SCOPE 27). Assumes nothing.
-use mathlib.Core.Path.{_≡_, refl, sym, ap, _∙_}
+-- The number and values of an answer tell it from every other (SCOPE 27), and so each contract leaves one: over the functions' own postconditions, so that an
+-- `ensures` that says less breaks this. Assumes nothing.
+use mathlib.Core.Path.{_≡_, refl, sym, _∙_}
 use Prim.Native.Nat.{zero, suc}
 use lib.IntN.{pos, negsuc}
 use mathlib.Core.List.{[], _∷_}
+use Rattle.outcomes.specs.Outcomes.{One, OneToOne}
+use Rattle.outcomes.proofs.Outcomes.{by-back}
 use Rattle.arcs.specs.declared.ArcMade.{ArcMade}
 use Rattle.arcs.specs.declared.ArcMade.the-variants as Made
 use Rattle.arcs.specs.declared.Sided.{Sided}
@@ -13,6 +16,12 @@ use Rattle.arcs.specs.declared.Met.{Met}
 use Rattle.arcs.specs.declared.Met.the-variants as Met
 use Rattle.arcs.specs.declared.ArcRelated.{ArcRelated}
 use Rattle.arcs.specs.declared.ArcRelated.the-variants as Related
+use Rattle.arcs.proofs.new as New
+use Rattle.arcs.proofs.opposite as Opposite
+use Rattle.arcs.proofs.side_of as SideOf
+use Rattle.arcs.proofs.contains_position as Contains
+use Rattle.arcs.proofs.intersection as Intersection
+use Rattle.arcs.proofs.relate as Relate
 use Rattle.arcs.specs.Answers.{Told, refused, answer, toldMade, toldSided, toldContained, toldMet, toldRelated}
 
 -- ---- from the number and values back to the answer
@@ -78,21 +87,37 @@ related-back (Related.Intersecting p) = refl
 related-back (Related.Touching p) = refl
 related-back (Related.Overlapping a) = refl
 
--- ---- so two answers that are told alike are one: of what a contract says, `told r ≡ t`, there is one r
-one-to-one : {A : Type 0} (told : A → Told) (back : Told → A) → ((x : A) → back (told x) ≡ x) → {t : Told} (x y : A) → told x ≡ t → told y ≡ t → x ≡ y
-one-to-one told back is x y p q = sym (is x) ∙ ap back (p ∙ sym q) ∙ is y
+-- ---- so two answers that are told alike are one
+pub one-made : OneToOne toldMade
+one-made = by-back toldMade backMade made-back
 
-pub one-made : {t : Told} (x y : ArcMade) → toldMade x ≡ t → toldMade y ≡ t → x ≡ y
-one-made = one-to-one toldMade backMade made-back
+pub one-sided : OneToOne toldSided
+one-sided = by-back toldSided backSided sided-back
 
-pub one-sided : {t : Told} (x y : Sided) → toldSided x ≡ t → toldSided y ≡ t → x ≡ y
-one-sided = one-to-one toldSided backSided sided-back
+pub one-contained : OneToOne toldContained
+one-contained = by-back toldContained backContained contained-back
 
-pub one-contained : {t : Told} (x y : Contained) → toldContained x ≡ t → toldContained y ≡ t → x ≡ y
-one-contained = one-to-one toldContained backContained contained-back
+pub one-met : OneToOne toldMet
+one-met = by-back toldMet backMet met-back
 
-pub one-met : {t : Told} (x y : Met) → toldMet x ≡ t → toldMet y ≡ t → x ≡ y
-one-met = one-to-one toldMet backMet met-back
+pub one-related : OneToOne toldRelated
+one-related = by-back toldRelated backRelated related-back
 
-pub one-related : {t : Told} (x y : ArcRelated) → toldRelated x ≡ t → toldRelated y ≡ t → x ≡ y
-one-related = one-to-one toldRelated backRelated related-back
+-- ---- and each function's contract leaves one: nothing is lent to be written, so the answer is all
+pub new-unique : One New.Kinds.ps New.Kinds.r New.Reads.Post
+new-unique κs a x y v w p q = (one-made x y (p ∙ sym q), refl)
+
+pub opposite-unique : One Opposite.Kinds.ps Opposite.Kinds.r Opposite.Reads.Post
+opposite-unique κs a x y v w p q = (one-made x y (p ∙ sym q), refl)
+
+pub side-of-unique : One SideOf.Kinds.ps SideOf.Kinds.r SideOf.Reads.Post
+side-of-unique κs a x y v w p q = (one-sided x y (p ∙ sym q), refl)
+
+pub contains-position-unique : One Contains.Kinds.ps Contains.Kinds.r Contains.Reads.Post
+contains-position-unique κs a x y v w p q = (one-contained x y (p ∙ sym q), refl)
+
+pub intersection-unique : One Intersection.Kinds.ps Intersection.Kinds.r Intersection.Reads.Post
+intersection-unique κs a x y v w p q = (one-met x y (p ∙ sym q), refl)
+
+pub relate-unique : One Relate.Kinds.ps Relate.Kinds.r Relate.Reads.Post
+relate-unique κs a x y v w p q = (one-related x y (p ∙ sym q), refl)

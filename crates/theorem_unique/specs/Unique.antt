@@ -1,71 +1,60 @@
--- SCOPE 27: for each input, refused ones too, one answer and one final state of the lent buffers meets the contract: for each public function by name, its
--- contract written out. Proved in proofs/Theorem.antt. Definitions only.
-use Prim.Native.Nat.{ℕ}
-use mathlib.Core.Path.{_≡_}
-use mathlib.Core.List.{List}
-use lib.Ieee.{Float, binary64, ofBits, toBits}
-use Rattle.root.specs.Root.{rootOf}
-use Rattle.angle.specs.Arctan.{atan2}
-use Rattle.vec3.specs.declared.Vec3.{Vec3}
-use Rattle.minor_arc.specs.declared.MinorArc.{MinorArc}
-use Rattle.arcs.specs.declared.ArcMade.{ArcMade}
-use Rattle.arcs.specs.declared.Sided.{Sided}
-use Rattle.arcs.specs.declared.Contained.{Contained}
-use Rattle.arcs.specs.declared.Met.{Met}
-use Rattle.arcs.specs.declared.ArcRelated.{ArcRelated}
+-- SCOPE 27: for each input, refused ones too, one answer and one final state of the lent buffers meets the contract: of each public function by name, over its
+-- own postcondition (`Reads.Post`, its `ensures` as the prover reads it), so that a contract that says less breaks this. Proved in proofs/Theorem.antt.
+-- Definitions only.
+use Rattle.outcomes.specs.Outcomes.{One, OneToOne}
 use Rattle.arcs.specs.Answers as Arcs
-use Rattle.loop_header.specs.declared.Header.{Header}
-use Rattle.loop_build.specs.declared.Built.{Built}
 use Rattle.loop_build.specs.Build as Build
-use Rattle.loop_ask.specs.declared.Placed.{Placed}
-use Rattle.loop_ask.specs.declared.Answered.{Answered}
 use Rattle.loop_ask.specs.Answers.{toldPlaced, toldAnswered}
-use Rattle.loop_ask.specs.Questions.{placeAnswer, vertexAnswer, onEdgeAnswer, convexAnswer, simpleAnswer, equivalentAnswer}
-use Rattle.loop_triangles.specs.declared.Cut.{Cut}
-use Rattle.loop_triangles.specs.Triangles as Triangles
-use Rattle.loop_triangles.specs.Triangles.{toldCut, triangulateOutcome, acceptsAnswer}
-use Rattle.loop_relate.specs.declared.Related.{Related}
-use Rattle.loop_relate.specs.Relations.{toldRelated, relateAnswer}
-use Rattle.bytes_loop.specs.Outcome.{Outcome}
-use Rattle.bytes_build.specs.Build.{buildOutcome}
-use Rattle.bytes_ask.specs.declared.Question.the-variants as Question
-use Rattle.bytes_ask.specs.Ask as BytesAsk
-use Rattle.bytes_build.specs.Build as Built
-use Rattle.bytes_pair.specs.declared.Comparison.the-variants as Comparison
-use Rattle.bytes_pair.specs.Pair as BytesPair
-use Rattle.bytes_cut.specs.Cut as BytesCut
-use Rattle.bytes_check.specs.Checking as Checking
-use Rattle.scene_words.specs.Words.{Wrote}
-use Rattle.scene_run.specs.Run.{sceneText}
-use Rattle.bytes_arcs.specs.Arcs as Bytes
-use Rattle.test_probes.specs.Leaves as Leaves
+use Rattle.loop_triangles.specs.Triangles.{toldCut}
+use Rattle.loop_relate.specs.Relations.{toldRelated}
+use Rattle.root.proofs.root as Root
+use Rattle.root.proofs.root_bits as RootBits
+use Rattle.arcs.proofs.new as ArcNew
+use Rattle.arcs.proofs.opposite as ArcOpposite
+use Rattle.arcs.proofs.side_of as ArcSideOf
+use Rattle.arcs.proofs.contains_position as ArcContainsPosition
+use Rattle.arcs.proofs.intersection as ArcIntersection
+use Rattle.arcs.proofs.relate as ArcRelate
+use Rattle.loop_build.proofs.build as LoopBuild
+use Rattle.loop_ask.proofs.contains_position as LoopContainsPosition
+use Rattle.loop_ask.proofs.has_vertex as LoopHasVertex
+use Rattle.loop_ask.proofs.any_edge_contains_position as LoopAnyEdgeContainsPosition
+use Rattle.loop_ask.proofs.is_convex as LoopIsConvex
+use Rattle.loop_ask.proofs.is_simple as LoopIsSimple
+use Rattle.loop_ask.proofs.is_equivalent as LoopIsEquivalent
+use Rattle.loop_triangles.proofs.triangulate as LoopTriangulate
+use Rattle.loop_triangles.proofs.accepts as LoopAccepts
+use Rattle.loop_relate.proofs.relate as LoopRelate
+use Rattle.exports.proofs.floats.desk_root as DeskRoot
+use Rattle.exports.proofs.floats.desk_atan2 as DeskAtan2
+use Rattle.exports.proofs.loops.desk_build as DeskBuild
+use Rattle.exports.proofs.loops.desk_place as DeskPlace
+use Rattle.exports.proofs.loops.desk_vertex as DeskVertex
+use Rattle.exports.proofs.loops.desk_on_edge as DeskOnEdge
+use Rattle.exports.proofs.loops.desk_convex as DeskConvex
+use Rattle.exports.proofs.loops.desk_simple as DeskSimple
+use Rattle.exports.proofs.loops.desk_place_f64 as DeskPlaceF64
+use Rattle.exports.proofs.loops.desk_triangles as DeskTriangles
+use Rattle.exports.proofs.loops.desk_triangles_f64 as DeskTrianglesF64
+use Rattle.exports.proofs.loops.desk_full_positions as DeskFullPositions
+use Rattle.exports.proofs.loops.desk_accepts as DeskAccepts
+use Rattle.exports.proofs.loops.desk_pair as DeskPair
+use Rattle.exports.proofs.loops.desk_equivalent as DeskEquivalent
+use Rattle.exports.proofs.loops.desk_pair_f64 as DeskPairF64
+use Rattle.exports.proofs.loops.desk_build_f64 as DeskBuildF64
+use Rattle.exports.proofs.minor_arcs.desk_arc as DeskArc
+use Rattle.exports.proofs.minor_arcs.desk_arc_opposite as DeskArcOpposite
+use Rattle.exports.proofs.minor_arcs.desk_arc_side as DeskArcSide
+use Rattle.exports.proofs.minor_arcs.desk_arc_contains as DeskArcContains
+use Rattle.exports.proofs.minor_arcs.desk_arc_intersection as DeskArcIntersection
+use Rattle.exports.proofs.minor_arcs.desk_arc_relate as DeskArcRelate
+use Rattle.scene_run.proofs.run as SceneRun
+use Rattle.test_probes.proofs.leaf_vec as LeafVec
+use Rattle.test_probes.proofs.leaf_number as LeafNumber
+use Rattle.test_probes.proofs.leaf_case as LeafCase
+use Rattle.test_probes.proofs.leaf_cap as LeafCap
 
--- what satisfies the contract is one
-abbrev pub One : {A : Type 0} → (A → Type 0) → Type 0
-One {A} contract = (x y : A) → contract x → contract y → x ≡ y
-
--- no two answers have the same number and values
-abbrev pub OneToOne : {A B : Type 0} → (A → B) → Type 0
-OneToOne {A} told = (x y : A) → told x ≡ told y → x ≡ y
-
--- an answer with the buffers at exit
-pub record BuildEnd : Type 0 where
-  pub answer : Built
-  pub positions : List Float
-  pub normals : List Float
-  pub classes : List ℕ
-
-abbrev pub toldBuild : BuildEnd → Build.Outcome
-toldBuild e = record { answer = Build.told (e .answer); positions = e .positions; normals = e .normals; classes = e .classes }
-
-pub record CutEnd : Type 0 where
-  pub answer : Cut
-  pub triangles : List ℕ
-
-abbrev pub toldEnd : CutEnd → Triangles.Outcome
-toldEnd e = record { answer = toldCut (e .answer); triangles = e .triangles }
-
--- SCOPE 27: the definitions of the answers that are enums, each one-to-one
+-- the definitions of the answers that are enums, each one-to-one
 pub record Definitions : Type 0 where
   pub arc-made : OneToOne Arcs.toldMade
   pub arc-sided : OneToOne Arcs.toldSided
@@ -78,71 +67,73 @@ pub record Definitions : Type 0 where
   pub cut : OneToOne toldCut
   pub related : OneToOne toldRelated
 
+-- crate root
+pub record OfRoots : Type 0 where
+  pub root : One Root.Kinds.ps Root.Kinds.r Root.Reads.Post
+  pub root_bits : One RootBits.Kinds.ps RootBits.Kinds.r RootBits.Reads.Post
+
 -- crate arcs
 pub record OfArcs : Type 0 where
-  pub new : (s e : Vec3) → One (λ (r : ArcMade). Arcs.toldMade r ≡ Arcs.newAnswer s e)
-  pub opposite : (a : MinorArc) → One (λ (r : ArcMade). Arcs.toldMade r ≡ Arcs.oppositeAnswer a)
-  pub side_of : (a : MinorArc) (p : Vec3) → One (λ (r : Sided). Arcs.toldSided r ≡ Arcs.sideAnswer a p)
-  pub contains_position : (a : MinorArc) (p : Vec3) → One (λ (r : Contained). Arcs.toldContained r ≡ Arcs.containsAnswer a p)
-  pub intersection : (a b : MinorArc) → One (λ (r : Met). Arcs.toldMet r ≡ Arcs.intersectionAnswer a b)
-  pub relate : (a b : MinorArc) → One (λ (r : ArcRelated). Arcs.toldRelated r ≡ Arcs.relateAnswer a b)
+  pub new : One ArcNew.Kinds.ps ArcNew.Kinds.r ArcNew.Reads.Post
+  pub opposite : One ArcOpposite.Kinds.ps ArcOpposite.Kinds.r ArcOpposite.Reads.Post
+  pub side_of : One ArcSideOf.Kinds.ps ArcSideOf.Kinds.r ArcSideOf.Reads.Post
+  pub contains_position : One ArcContainsPosition.Kinds.ps ArcContainsPosition.Kinds.r ArcContainsPosition.Reads.Post
+  pub intersection : One ArcIntersection.Kinds.ps ArcIntersection.Kinds.r ArcIntersection.Reads.Post
+  pub relate : One ArcRelate.Kinds.ps ArcRelate.Kinds.r ArcRelate.Reads.Post
 
 -- crates loop_build, loop_ask, loop_triangles and loop_relate
 pub record OfLoops : Type 0 where
-  pub build : (l ps ns : List Float) (cs : List ℕ) → One (λ e. toldBuild e ≡ Build.buildOutcome l ps ns cs)
-  pub contains_position : (h : Header) (ps ns : List Float) (cs : List ℕ) (p : Vec3) → One (λ (r : Placed). toldPlaced r ≡ placeAnswer h ps ns cs p)
-  pub has_vertex : (h : Header) (ps ns : List Float) (cs : List ℕ) (p : Vec3) → One (λ (r : Answered). toldAnswered r ≡ vertexAnswer h ps ns cs p)
-  pub any_edge_contains_position : (h : Header) (ps ns : List Float) (cs : List ℕ) (p : Vec3) → One (λ (r : Answered). toldAnswered r ≡ onEdgeAnswer h ps ns cs p)
-  pub is_convex : (h : Header) (ps ns : List Float) (cs : List ℕ) → One (λ (r : Answered). toldAnswered r ≡ convexAnswer h ps ns cs)
-  pub is_simple : (h : Header) (ps ns : List Float) (cs : List ℕ) → One (λ (r : Answered). toldAnswered r ≡ simpleAnswer h ps ns cs)
-  pub is_equivalent : (h : Header) (ps ns : List Float) (cs : List ℕ) (o : Header) (qs ms : List Float) (ds : List ℕ) → One (λ (r : Answered). toldAnswered r ≡ equivalentAnswer h ps ns cs o qs ms ds)
-  pub triangulate : (h : Header) (ps : List Float) (cs tris : List ℕ) → One (λ e. toldEnd e ≡ triangulateOutcome h ps cs tris)
-  pub accepts : (h : Header) (ps : List Float) (cs tris : List ℕ) → One (λ (r : Answered). toldAnswered r ≡ acceptsAnswer h ps cs tris)
-  pub relate : (h : Header) (ps ns : List Float) (cs : List ℕ) (o : Header) (qs ms : List Float) (ds : List ℕ) → One (λ (r : Related). toldRelated r ≡ relateAnswer h ps ns cs o qs ms ds)
+  pub build : One LoopBuild.Kinds.ps LoopBuild.Kinds.r LoopBuild.Reads.Post
+  pub contains_position : One LoopContainsPosition.Kinds.ps LoopContainsPosition.Kinds.r LoopContainsPosition.Reads.Post
+  pub has_vertex : One LoopHasVertex.Kinds.ps LoopHasVertex.Kinds.r LoopHasVertex.Reads.Post
+  pub any_edge_contains_position : One LoopAnyEdgeContainsPosition.Kinds.ps LoopAnyEdgeContainsPosition.Kinds.r LoopAnyEdgeContainsPosition.Reads.Post
+  pub is_convex : One LoopIsConvex.Kinds.ps LoopIsConvex.Kinds.r LoopIsConvex.Reads.Post
+  pub is_simple : One LoopIsSimple.Kinds.ps LoopIsSimple.Kinds.r LoopIsSimple.Reads.Post
+  pub is_equivalent : One LoopIsEquivalent.Kinds.ps LoopIsEquivalent.Kinds.r LoopIsEquivalent.Reads.Post
+  pub triangulate : One LoopTriangulate.Kinds.ps LoopTriangulate.Kinds.r LoopTriangulate.Reads.Post
+  pub accepts : One LoopAccepts.Kinds.ps LoopAccepts.Kinds.r LoopAccepts.Reads.Post
+  pub relate : One LoopRelate.Kinds.ps LoopRelate.Kinds.r LoopRelate.Reads.Post
 
--- crate exports: a number, or a number with the bytes or floats at exit
+-- crate exports
 pub record OfExports : Type 0 where
-  pub desk_root : (b : ℕ) → One (λ (r : ℕ). r ≡ toBits binary64 (rootOf (ofBits binary64 b)))
-  pub desk_atan2 : (y x : ℕ) → One (λ (r : ℕ). r ≡ toBits binary64 (atan2 (ofBits binary64 y) (ofBits binary64 x)))
-  pub desk_pair : (s t : List ℕ) → One (λ (r : ℕ). r ≡ BytesAsk.numberOf (BytesPair.pairTold Comparison.Relation s t))
-  pub desk_equivalent : (s t : List ℕ) → One (λ (r : ℕ). r ≡ BytesAsk.numberOf (BytesPair.pairTold Comparison.Equivalence s t))
-  pub desk_build_f64 : (list : List Float) (header : List ℕ) (ps ns : List Float) (cs : List ℕ) → One (λ (l : Built.FloatsOutcome). l ≡ Built.floatsOutcome list header ps ns cs)
-  pub desk_pair_f64 : (header : List ℕ) (ps ns : List Float) (cs other : List ℕ) (qs ms : List Float) (ds : List ℕ) → One (λ (r : ℕ). r ≡ BytesAsk.numberOf (BytesPair.floatsTold header ps ns cs other qs ms ds))
-  pub desk_arc : (s e out : List ℕ) → One (λ (l : Outcome ℕ). l ≡ Bytes.leave (Bytes.arcTold s e) out)
-  pub desk_arc_opposite : (a out : List ℕ) → One (λ (l : Outcome ℕ). l ≡ Bytes.leave (Bytes.oppositeTold a) out)
-  pub desk_arc_side : (a p : List ℕ) → One (λ (r : ℕ). r ≡ Bytes.numberOf (Bytes.sideTold a p))
-  pub desk_arc_contains : (a p : List ℕ) → One (λ (r : ℕ). r ≡ Bytes.numberOf (Bytes.containsTold a p))
-  pub desk_arc_intersection : (a b out : List ℕ) → One (λ (l : Outcome ℕ). l ≡ Bytes.leave (Bytes.intersectionTold a b) out)
-  pub desk_arc_relate : (a b out : List ℕ) → One (λ (l : Outcome ℕ). l ≡ Bytes.leave (Bytes.relateTold a b) out)
-  pub desk_build : (list out : List ℕ) → One (λ (l : Outcome ℕ). l ≡ buildOutcome list out)
-  pub desk_place : (s p : List ℕ) → One (λ (r : ℕ). r ≡ BytesAsk.numberOf (BytesAsk.askTold Question.Place s p))
-  pub desk_vertex : (s p : List ℕ) → One (λ (r : ℕ). r ≡ BytesAsk.numberOf (BytesAsk.askTold Question.Vertex s p))
-  pub desk_on_edge : (s p : List ℕ) → One (λ (r : ℕ). r ≡ BytesAsk.numberOf (BytesAsk.askTold Question.OnEdge s p))
-  pub desk_convex : (s : List ℕ) → One (λ (r : ℕ). r ≡ BytesAsk.numberOf (BytesAsk.convexTold s))
-  pub desk_simple : (s : List ℕ) → One (λ (r : ℕ). r ≡ BytesAsk.numberOf (BytesAsk.simpleTold s))
-  pub desk_place_f64 : (s : List ℕ) (ps ns : List Float) (cs : List ℕ) (p : Vec3) → One (λ (r : ℕ). r ≡ BytesAsk.numberOf (BytesAsk.placeTold s ps ns cs p))
-  pub desk_triangles : (s out : List ℕ) → One (λ (l : Outcome ℕ). l ≡ BytesCut.trianglesOutcome s out)
-  pub desk_triangles_f64 : (s : List ℕ) (ps : List Float) (cs out : List ℕ) → One (λ (l : Outcome ℕ). l ≡ BytesCut.floatsOutcome s ps cs out)
-  pub desk_full_positions : (out : List Float) → One (λ (l : Outcome Float). l ≡ BytesCut.fullPositionsOutcome out)
-  pub desk_accepts : (s t : List ℕ) → One (λ (r : ℕ). r ≡ BytesAsk.numberOf (Checking.acceptsTold s t))
+  pub desk_root : One DeskRoot.Kinds.ps DeskRoot.Kinds.r DeskRoot.Reads.Post
+  pub desk_atan2 : One DeskAtan2.Kinds.ps DeskAtan2.Kinds.r DeskAtan2.Reads.Post
+  pub desk_build : One DeskBuild.Kinds.ps DeskBuild.Kinds.r DeskBuild.Reads.Post
+  pub desk_place : One DeskPlace.Kinds.ps DeskPlace.Kinds.r DeskPlace.Reads.Post
+  pub desk_vertex : One DeskVertex.Kinds.ps DeskVertex.Kinds.r DeskVertex.Reads.Post
+  pub desk_on_edge : One DeskOnEdge.Kinds.ps DeskOnEdge.Kinds.r DeskOnEdge.Reads.Post
+  pub desk_convex : One DeskConvex.Kinds.ps DeskConvex.Kinds.r DeskConvex.Reads.Post
+  pub desk_simple : One DeskSimple.Kinds.ps DeskSimple.Kinds.r DeskSimple.Reads.Post
+  pub desk_place_f64 : One DeskPlaceF64.Kinds.ps DeskPlaceF64.Kinds.r DeskPlaceF64.Reads.Post
+  pub desk_triangles : One DeskTriangles.Kinds.ps DeskTriangles.Kinds.r DeskTriangles.Reads.Post
+  pub desk_triangles_f64 : One DeskTrianglesF64.Kinds.ps DeskTrianglesF64.Kinds.r DeskTrianglesF64.Reads.Post
+  pub desk_full_positions : One DeskFullPositions.Kinds.ps DeskFullPositions.Kinds.r DeskFullPositions.Reads.Post
+  pub desk_accepts : One DeskAccepts.Kinds.ps DeskAccepts.Kinds.r DeskAccepts.Reads.Post
+  pub desk_pair : One DeskPair.Kinds.ps DeskPair.Kinds.r DeskPair.Reads.Post
+  pub desk_equivalent : One DeskEquivalent.Kinds.ps DeskEquivalent.Kinds.r DeskEquivalent.Reads.Post
+  pub desk_pair_f64 : One DeskPairF64.Kinds.ps DeskPairF64.Kinds.r DeskPairF64.Reads.Post
+  pub desk_build_f64 : One DeskBuildF64.Kinds.ps DeskBuildF64.Kinds.r DeskBuildF64.Reads.Post
+  pub desk_arc : One DeskArc.Kinds.ps DeskArc.Kinds.r DeskArc.Reads.Post
+  pub desk_arc_opposite : One DeskArcOpposite.Kinds.ps DeskArcOpposite.Kinds.r DeskArcOpposite.Reads.Post
+  pub desk_arc_side : One DeskArcSide.Kinds.ps DeskArcSide.Kinds.r DeskArcSide.Reads.Post
+  pub desk_arc_contains : One DeskArcContains.Kinds.ps DeskArcContains.Kinds.r DeskArcContains.Reads.Post
+  pub desk_arc_intersection : One DeskArcIntersection.Kinds.ps DeskArcIntersection.Kinds.r DeskArcIntersection.Reads.Post
+  pub desk_arc_relate : One DeskArcRelate.Kinds.ps DeskArcRelate.Kinds.r DeskArcRelate.Reads.Post
 
 -- crate test_probes
 pub record OfProbes : Type 0 where
-  pub leaf_vec : (op : ℕ) (input out : List Float) → One (λ (l : Outcome Float). l ≡ Leaves.leafVec op input out)
-  pub leaf_number : (op : ℕ) (input : List Float) → One (λ (r : ℕ). r ≡ Leaves.leafNumber op input)
-  pub leaf_case : (op : ℕ) (input : List Float) → One (λ (r : ℕ). r ≡ Leaves.leafCase op input)
-  pub leaf_cap : (list out : List Float) → One (λ (l : Outcome Float). l ≡ Leaves.leafCap list out)
+  pub leaf_vec : One LeafVec.Kinds.ps LeafVec.Kinds.r LeafVec.Reads.Post
+  pub leaf_number : One LeafNumber.Kinds.ps LeafNumber.Kinds.r LeafNumber.Reads.Post
+  pub leaf_case : One LeafCase.Kinds.ps LeafCase.Kinds.r LeafCase.Reads.Post
+  pub leaf_cap : One LeafCap.Kinds.ps LeafCap.Kinds.r LeafCap.Reads.Post
 
 -- crate scene_run: the bytes lent for the text at exit, and how many of them are the text
-pub record RunEnd : Type 0 where
-  pub out : List ℕ
-  pub size : ℕ
-
 pub record OfScenes : Type 0 where
-  pub run : (s out : List ℕ) → One (λ (e : RunEnd). Wrote out 0 (sceneText s) (e .out) (e .size))
+  pub run : One SceneRun.Kinds.ps SceneRun.Kinds.r SceneRun.Reads.Post
 
 pub record Unique : Type 0 where
   pub definitions : Definitions
+  pub of-roots : OfRoots
   pub of-arcs : OfArcs
   pub of-loops : OfLoops
   pub of-exports : OfExports

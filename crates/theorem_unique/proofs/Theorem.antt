@@ -29,7 +29,7 @@ definitions = record {
 of-roots : OfRoots
 of-roots = record {
   root = λ κs a x y v w p q. (p .same ∙ sym (q .same), refl);
-  root_bits = λ κs a x y v w p q. (p ∙ sym q, refl);
+  root_bits = λ κs a x y v w p q. (p .same ∙ sym (q .same), refl);
 }
 
 of-arcs : OfArcs
@@ -59,7 +59,7 @@ of-loops = record {
 -- a number alone, and a number with what is lent at exit
 of-exports : OfExports
 of-exports = record {
-  desk_root = λ κs a x y v w p q. (p ∙ sym q, refl);
+  desk_root = λ κs a x y v w p q. (p .same ∙ sym (q .same), refl);
   desk_atan2 = λ κs a x y v w p q. (p ∙ sym q, refl);
   desk_build = λ κs a x y v w p q. let e = p ∙ sym q in (ap (λ (o : Outcome ℕ). o .number) e, ap (λ (o : Outcome ℕ). (tt, (o .out, tt))) e);
   desk_place = λ κs a x y v w p q. (p ∙ sym q, refl);

@@ -1,8 +1,9 @@
 -- SCOPE 24: how two loops stand to each other, the refusal or the relation's number. Definitions only.
 use Prim.Native.Nat.{ℕ, zero, suc, _*_, _≤_}
-use mathlib.Core.Bool.{Bool, true, false, not, _&&_}
+use mathlib.Core.Bool.{Bool, true, false, not, _&&_, _||_}
 use mathlib.Core.List.{List}
 use lib.ListN.{length}
+use lib.Dec.{ltb}
 use lib.Ieee.{Float}
 use Rattle.vec3.specs.declared.Vec3.{Vec3}
 use Rattle.cap.specs.Caps.{intersects}
@@ -109,6 +110,17 @@ byStates h ps ns cs o qs ms ds =
 unfoldable pub relateAnswer : Header → List Float → List Float → List ℕ → Header → List Float → List Float → List ℕ → Told
 relateAnswer h ps ns cs o qs ms ds = judged (pairFault h ps ns cs o qs ms ds) (byStates h ps ns cs o qs ms ds)
 
--- SCOPE 10: whether a midpoint was asked for in either search; the pair is then outside the domain
-unfoldable pub neededMidpoint : Header → List Float → List Float → Header → List Float → List Float → Bool
-neededMidpoint h ps ns o qs ms = not (not (askedMidpoint ps (h .count) qs ms (o .count)) && not (askedMidpoint qs (o .count) ps ns (h .count)))
+-- ---- SCOPE 10: a pair that needed a midpoint is outside the domain
+-- the pair comes to the search for points: the first loop is not full, not both are empty, the caps meet, they are not equivalent, and no edges cross
+unfoldable pub searched : Header → List Float → List Float → List ℕ → Header → List Float → List Float → List ℕ → Bool
+searched h ps ns cs o qs ms ds =
+    not (fullState (h .state)) && not (emptyState (h .state) && emptyState (o .state)) && intersects (clearedCap (h .cap)) (clearedCap (o .cap))
+    && not (equivalentLoops h ps cs o qs ds) && not (isCrossed (contactOf ps ns (h .count) qs ms (o .count)))
+
+-- a ring with corners none of which is free: a midpoint of its edges is worked out
+abbrev pub midpointFor : List Float → ℕ → List Float → List Float → ℕ → Bool
+midpointFor ps n rs rn m = ltb 0 n && askedMidpoint ps n rs rn m
+
+unfoldable pub neededMidpoint : Header → List Float → List Float → List ℕ → Header → List Float → List Float → List ℕ → Bool
+neededMidpoint h ps ns cs o qs ms ds =
+    searched h ps ns cs o qs ms ds && (midpointFor ps (h .count) qs ms (o .count) || midpointFor qs (o .count) ps ns (h .count))

@@ -1,1 +1,2 @@
 pub mod Triangles
+pub mod Why

@@ -101,13 +101,14 @@ pub one-told : (b : Bool) {Good Bad : Type 0} → Tells b Good Bad → Good ⊎ 
 one-told true x = inl (x .yes refl)
 one-told false x = inr (x .no refl)
 
-and-yes : (a b : Bool) → a && b ≡ true → (a ≡ true) × (b ≡ true)
-and-yes true b e = (refl, e)
-and-yes false b e = absurd (true≢false (sym e))
+-- both of two tests pass, or one of them fails
+pub both-true : (a b : Bool) → a && b ≡ true → (a ≡ true) × (b ≡ true)
+both-true true b e = (refl, e)
+both-true false b e = absurd (true≢false (sym e))
 
-and-no : (a b : Bool) → a && b ≡ false → (a ≡ false) ⊎ (b ≡ false)
-and-no true b e = inr e
-and-no false b e = inl refl
+one-false : (a b : Bool) → a && b ≡ false → (a ≡ false) ⊎ (b ≡ false)
+one-false true b e = inr e
+one-false false b e = inl refl
 
 module _ {a b : Bool} {Good Bad Right Wrong : Type 0} (x : Tells a Good Bad) (y : Tells b Right Wrong) where
   either-bad : Bad ⊎ Wrong → a && b ≡ false
@@ -116,8 +117,8 @@ module _ {a b : Bool} {Good Bad Right Wrong : Type 0} (x : Tells a Good Bad) (y 
 
   pub both-tell : Tells (a && b) (Good × Right) (Bad ⊎ Wrong)
   both-tell = record {
-    yes = λ e. let p = and-yes a b e in (x .yes (p .0), y .yes (p .1));
-    no = λ e. ⊎-elim (λ p. inl (x .no p)) (λ p. inr (y .no p)) (and-no a b e);
+    yes = λ e. let p = both-true a b e in (x .yes (p .0), y .yes (p .1));
+    no = λ e. ⊎-elim (λ p. inl (x .no p)) (λ p. inr (y .no p)) (one-false a b e);
     good = λ p. rw (x .good (p .0), y .good (p .1));
     bad = either-bad;
   }

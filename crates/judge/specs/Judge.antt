@@ -13,9 +13,16 @@ use Rattle.laws.specs.Loop.{firstOf}
 abbrev pub finiteVec : Vec3 → Bool
 finiteVec v = (finite (v .x) && finite (v .y)) && finite (v .z)
 
--- the squared norm as the rounded float sum, against 1 - 2^-40 and 1 + 2^-40
+-- the ends of the range of a squared norm: 1 - 2^-40 and 1 + 2^-40
+abbrev pub least : Float
+least = ofBits binary64 0x3fef_ffff_ffff_e000
+
+abbrev pub greatest : Float
+greatest = ofBits binary64 0x3ff0_0000_0000_1000
+
+-- the squared norm as the rounded float sum, both ends included
 abbrev pub inRange : Float → Bool
-inRange d = le (ofBits binary64 0x3fef_ffff_ffff_e000) d && le d (ofBits binary64 0x3ff0_0000_0000_1000)
+inRange d = le least d && le d greatest
 
 abbrev pub withinRange : Vec3 → Bool
 withinRange p = inRange (dot p p)

@@ -1,3 +1,4 @@
 pub mod Judged
 pub mod Silence
 pub mod Unique
+pub mod Exact

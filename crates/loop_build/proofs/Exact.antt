@@ -1,73 +1,88 @@
 -- Each refusal of `build` is given exactly when SCOPE 25 says, in the order of SCOPE 26: both directions. Assumes nothing.
-use Prim.Native.Nat.{ℕ, zero, suc, _/_, _%_, _≤_, _<_}
+use Prim.Native.Nat.{ℕ, zero, suc, _*_, _/_, _%_, _≤_, _<_}
 use mathlib.Core.Path.{_≡_, refl}
-use mathlib.Core.Bool.{Bool, true, false, cond}
-use mathlib.Core.Logic.{⊎-elim}
+use mathlib.Core.Bool.{Bool, true, false, _&&_, _||_, cond, or-true}
 use mathlib.Core.List.{List}
 use lib.ListN.{length}
-use lib.Dec.{eqb, ltb}
+use lib.Dec.{eqb, leb, ltb}
 use lib.Ieee.{Float}
-use borrow.Author.Tests.{eqb-true, eqb-false, eq-eqb, ne-eqb, ltb-true, ltb-false, lt-ltb, le-ltb}
+use borrow.Author.Tests.{eqb-true, eqb-false, eq-eqb, ne-eqb, leb-true, leb-false, le-leb, lt-leb, ltb-true, ltb-false, lt-ltb, le-ltb}
 use Rattle.laws.specs.Loop.{first}
-use Rattle.laws.proofs.Firsts.{first-zero, first-given, first-left, first-right, GivenAt, firstOf-given}
-use Rattle.judge.specs.Judge.{positionFault, positionsFault}
-use Rattle.loop_header.proofs.Exact.{firstOf-at}
-use Rattle.loop_build.specs.Build.{listFault, roomFault, openedCount, refusal}
+use Rattle.judge.specs.Judge.{positionsFault}
+use Rattle.judge.specs.Why.{Exactly, Refuses, PositionsWhy}
+use Rattle.judge.proofs.Exactly.{exactly, then-exact, refuses}
+use Rattle.judge.proofs.Exact as Judge
+use Rattle.loop_build.specs.Build.{Told, refused, loop, listFault, roomFault, openedCount, refusal, Outcome, outcomeIf, outcomeBy, buildOutcome}
+use Rattle.loop_build.specs.Why.{ListWhy, not-threes, too-many, in-positions, RoomWhy, short-positions, short-normals, short-classes, fewer, all-fit, BuildWhy, Exact}
 
--- why the number k is given to a list and the room lent for its ring
-pub data Why (l ps ns : List Float) (cs : List ℕ) : ℕ → Type 0 where
-  -- 1: not in threes
-  not-threes : (length l % 3 ≡ 0 → ⊥) → Why l ps ns cs 1
-  -- 2: more than 512 positions, a closing one counted
-  too-many : length l % 3 ≡ 0 → 512 < length l / 3 → Why l ps ns cs 2
-  -- 3 or 4: the first position that has one
-  position : {r : ℕ} → length l % 3 ≡ 0 → length l / 3 ≤ 512 → GivenAt (positionFault l) (length l / 3) 0 (suc r) → Why l ps ns cs (suc r)
-  -- 5: three or more are left of the list when it is opened, and one of the three slices is too short; 0: none
-  room : listFault l ≡ 0 → {r : ℕ} → roomFault (openedCount l) (length ps) (length ns) (length cs) ≡ r → Why l ps ns cs r
+-- ---- a list
+module _ (l : List Float) where
+  positions-exact : Exactly (positionsFault l (length l / 3)) (PositionsWhy l (length l / 3))
+  positions-exact = Judge.exact .positions l (length l / 3)
+
+  list-why : (a b : Bool) → eqb (length l % 3) 0 ≡ a → ltb 512 (length l / 3) ≡ b → ListWhy l (first (cond a 0 1) (first (cond b 2 0) (positionsFault l (length l / 3))))
+  list-why false b p q = not-threes (eqb-false (length l % 3) 0 p)
+  list-why true true p q = too-many (eqb-true (length l % 3) 0 p) (ltb-true 512 (length l / 3) q)
+  list-why true false p q = in-positions (eqb-true (length l % 3) 0 p) (ltb-false 512 (length l / 3) q) (positions-exact .given-why _ refl)
+
+  why-list : (k : ℕ) → ListWhy l k → listFault l ≡ k
+  unfolding listFault
+  why-list _ (not-threes t) = rw (ne-eqb (length l % 3) 0 t)
+  why-list _ (too-many t m) = rw (eq-eqb (length l % 3) 0 t, lt-ltb 512 (length l / 3) m)
+  why-list _ (in-positions {k} t m w) = rw (eq-eqb (length l % 3) 0 t, le-ltb 512 (length l / 3) m) (positions-exact .why-given k w)
+
+  list-exact : Exactly (listFault l) (ListWhy l)
+  list-exact = exactly (ListWhy l) (unfold listFault in list-why (eqb (length l % 3) 0) (ltb 512 (length l / 3)) refl refl) why-list
+
+-- ---- the room
+module _ (n p q r : ℕ) where
+  room-why : (a b c d : Bool) → leb 3 n ≡ a → ltb p (3 * n) ≡ b → ltb q (3 * n) ≡ c → ltb r n ≡ d → RoomWhy n p q r (cond (a && ((b || c) || d)) 5 0)
+  room-why false b c d e f g h = fewer (leb-false 3 n e)
+  room-why true true c d e f g h = short-positions (leb-true 3 n e) (ltb-true p (3 * n) f)
+  room-why true false true d e f g h = short-normals (leb-true 3 n e) (ltb-true q (3 * n) g)
+  room-why true false false true e f g h = short-classes (leb-true 3 n e) (ltb-true r n h)
+  room-why true false false false e f g h = all-fit (ltb-false p (3 * n) f) (ltb-false q (3 * n) g) (ltb-false r n h)
+
+  why-room : (k : ℕ) → RoomWhy n p q r k → roomFault n p q r ≡ k
+  unfolding roomFault
+  why-room _ (short-positions h s) = rw (le-leb 3 n h, lt-ltb p (3 * n) s)
+  why-room _ (short-normals h s) = rw (le-leb 3 n h, lt-ltb q (3 * n) s, or-true)
+  why-room _ (short-classes h s) = rw (le-leb 3 n h, lt-ltb r n s, or-true)
+  why-room _ (fewer h) = rw (lt-leb 3 n h)
+  why-room _ (all-fit f g h) = rw (le-ltb p (3 * n) f, le-ltb q (3 * n) g, le-ltb r n h) (none (leb 3 n))
+    where
+      none : (b : Bool) → _≡_ {A = ℕ} (cond (b && false) 5 0) 0
+      none true = refl
+      none false = refl
+
+  room-exact : Exactly (roomFault n p q r) (RoomWhy n p q r)
+  room-exact = exactly (RoomWhy n p q r) (unfold roomFault in room-why (leb 3 n) (ltb p (3 * n)) (ltb q (3 * n)) (ltb r n) refl refl refl refl) why-room
+
+-- ---- the answer
+number : Told → ℕ
+number (refused k) = suc k
+number (loop h) = 0
 
 module _ (l ps ns : List Float) (cs : List ℕ) where
-  list-why : (r : ℕ) → listFault l ≡ suc r → Why l ps ns cs (suc r)
-  list-why r e = unfold listFault in threes (eqb (length l % 3) 0) refl e
-    where
-      one : {r : ℕ} → 1 ≡ suc r → Why l ps ns cs 1 → Why l ps ns cs (suc r)
-      one e y = rw (← e) y
-
-      two : {r : ℕ} → 2 ≡ suc r → Why l ps ns cs 2 → Why l ps ns cs (suc r)
-      two e y = rw (← e) y
-
-      many : length l % 3 ≡ 0 → (b : Bool) → ltb 512 (length l / 3) ≡ b → first (cond b 2 0) (positionsFault l (length l / 3)) ≡ suc r → Why l ps ns cs (suc r)
-      many t true b e = two e (too-many t (ltb-true _ _ b))
-      many t false b e = position t (ltb-false _ _ b) (firstOf-given (positionFault l) (length l / 3) 0 r e)
-
-      threes : (b : Bool) → eqb (length l % 3) 0 ≡ b → first (cond b 0 1) (first (cond (ltb 512 (length l / 3)) 2 0) (positionsFault l (length l / 3))) ≡ suc r → Why l ps ns cs (suc r)
-      threes true b e = many (eqb-true _ _ b) (ltb 512 (length l / 3)) refl e
-      threes false b e = one e (not-threes (eqb-false _ _ b))
-
-  -- given, only if
-  pub given-why : (k : ℕ) → refusal l ps ns cs ≡ k → Why l ps ns cs k
+  number-exact : Exactly (refusal l ps ns cs) (BuildWhy l ps ns cs)
   unfolding refusal
-  given-why zero e = let p = first-zero _ _ e in room (p .0) (p .1)
-  given-why (suc r) e = ⊎-elim (λ p. list-why r p) (λ p. room (p .0) (p .1)) (first-given (listFault l) _ r e)
+  number-exact = then-exact (list-exact l) (λ z. room-exact (openedCount l) (length ps) (length ns) (length cs))
 
-  -- if
-  list-first : {r : ℕ} → listFault l ≡ suc r → refusal l ps ns cs ≡ suc r
-  unfolding refusal
-  list-first {r} e = first-left _ _ r e
+  -- given, only if; and if
+  pub given-why : (k : ℕ) → refusal l ps ns cs ≡ k → BuildWhy l ps ns cs k
+  given-why = number-exact .given-why
 
-  threes-is : (length l % 3 ≡ 0 → ⊥) → listFault l ≡ 1
-  unfolding listFault
-  threes-is n = rw (ne-eqb _ _ n)
+  pub why-given : (k : ℕ) → BuildWhy l ps ns cs k → refusal l ps ns cs ≡ k
+  why-given = number-exact .why-given
 
-  many-is : length l % 3 ≡ 0 → 512 < length l / 3 → listFault l ≡ 2
-  unfolding listFault
-  many-is t m = rw (eq-eqb _ _ t, lt-ltb _ _ m)
+  some-loop : (b : Bool) (n : ℕ) → number (outcomeIf b l n ps ns cs .answer) ≡ 0
+  unfolding number
+  some-loop true n = refl
+  some-loop false n = refl
 
-  position-is : {r : ℕ} → length l % 3 ≡ 0 → length l / 3 ≤ 512 → positionsFault l (length l / 3) ≡ suc r → listFault l ≡ suc r
-  unfolding listFault
-  position-is t m e = rw (eq-eqb _ _ t, le-ltb _ _ m) e
-
-  pub why-given : (k : ℕ) → Why l ps ns cs k → refusal l ps ns cs ≡ k
-  why-given _ (not-threes n) = list-first (threes-is n)
-  why-given _ (too-many t m) = list-first (many-is t m)
-  why-given _ (position t m g) = list-first (position-is t m (firstOf-at _ _ _ _ g))
-  why-given _ (room p q) = unfold refusal in first-right _ _ p q
+  pub exact : Exact l ps ns cs
+  unfolding number buildOutcome
+  exact = record {
+    number = number-exact;
+    building = refuses refused number (λ k. refl) number-exact (λ z. rw z (some-loop (ltb (openedCount l) 3) (openedCount l))) (λ k e. rw e);
+  }

@@ -1,123 +1,126 @@
 -- Each refusal of a loop handed back is given exactly when SCOPE 25 says, in the order of SCOPE 26: both directions. Assumes nothing.
-use Prim.Native.Nat.{ℕ, zero, suc, _+_, _≤_, _<_}
-use mathlib.Core.Path.{_≡_, refl, sym, _∙_}
-use mathlib.Core.Bool.{Bool, true, false, cond, _&&_}
-use mathlib.Core.Logic.{_⊎_, inl, inr, ⊎-elim}
+use Prim.Native.Nat.{ℕ, _*_, _%_}
+use mathlib.Core.Path.{_≡_, refl}
+use mathlib.Core.Logic.{_⊎_, ⊎-elim}
 use mathlib.Core.List.{List}
-use native.Mathlib.Nat.{add-zero, not-suc-le-zero}
-use native.Mathlib.Omega.{arith}
 use lib.ListN.{length}
-use lib.Dec.{eqb, ltb}
 use lib.Ieee.{Float}
-use borrow.Author.Tests.{ltb-true, ltb-false, lt-ltb, le-ltb}
-use Rattle.laws.specs.Loop.{first, firstOf}
-use Rattle.laws.proofs.Firsts.{first-zero, first-given, first-left, first-right, GivenAt, firstOf-given}
-use Rattle.judge.specs.Judge.{positionFault, positionsFault}
+use borrow.Author.Tests.{eq-eqb, ne-eqb}
+use Rattle.laws.specs.Loop.{first}
+use Rattle.laws.proofs.Firsts.{first-left, first-right}
+use Rattle.judge.specs.Why.{Exactly, Then}
+use Rattle.judge.proofs.Exactly.{exactly, Tells, one-told, then-exact}
+use Rattle.loop_header.specs.declared.State.{State}
+use Rattle.loop_header.specs.declared.State.the-variants.{Empty, Full, Ring}
 use Rattle.loop_header.specs.declared.Header.{Header}
-use Rattle.loop_header.specs.Loops.{countFits, threesOf, shapeFault, classFault, classesFault, ringFault, vectorsFault, loopFault}
+use Rattle.loop_header.specs.Loops.{threesOf, shapeFault, ringFault, vectorsFault, cutFault, ringOnly, checkFault, loopFault}
+use Rattle.loop_header.specs.Why.{Shaped, Misshapen, RingWhy, VectorsWhy, CutWhy, cut-misshapen, cut-ring, StateWhy, empty-loop, full-loop, ring-loop}
+use Rattle.loop_header.specs.Why.{CheckWhy, check-misshapen, not-threes, check-ring, LoopWhy, loop-misshapen, normals-disagree, whole, Exact}
+use Rattle.loop_header.proofs.Rings.{equal-tells, threes-tells, shape-tells, ring-exact}
+use Rattle.loop_header.proofs.Vectors.{vectors-exact}
 
--- the converse of `firstOf-given`
-shifted : (i p : ℕ) → i + suc p ≡ suc i + p
-shifted i p = omega arith
-
-at-index : (f : ℕ → ℕ) (r k i p : ℕ) → p < k → f (i + p) ≡ suc r → ((j : ℕ) → j < p → f (i + j) ≡ 0) → firstOf f k i ≡ suc r
-unfolding firstOf
-at-index f r zero i p h e n = absurd (not-suc-le-zero h)
-at-index f r (suc k) i zero h e n = first-left (f i) _ r (rw add-zero at e)
-at-index f r (suc k) i (suc p) h e n =
-    first-right (f i) _ (rw add-zero at (n 0 (omega arith)))
-    (at-index f r k (suc i) p (omega arith) (rw (shifted i p) at e) (λ j g. rw (shifted i j) at (n (suc j) (omega arith))))
-
-pub firstOf-at : (f : ℕ → ℕ) (k i r : ℕ) → GivenAt f k i (suc r) → firstOf f k i ≡ suc r
-firstOf-at f k i r g = at-index f r k i (g .index) (g .within) (g .here) (g .none-before)
-
--- a whole loop has the right shape: the count fits the state, and each slice agrees with it
-pub record Whole (h : Header) (ps ns : List Float) (cs : List ℕ) : Type 0 where
-  pub shaped : shapeFault h ps cs ≡ 0
-  pub normals : threesOf (length ns) (h .count) ≡ true
-
--- why the number k is given to a loop, in the table's words and order
-pub data Why (h : Header) (ps ns : List Float) (cs : List ℕ) : ℕ → Type 0 where
-  -- 1: the count does not fit the state, or a slice does not agree with it
-  misshapen : (shapeFault h ps cs ≡ 1) ⊎ ((shapeFault h ps cs ≡ 0) × (threesOf (length ns) (h .count) ≡ false)) → Why h ps ns cs 1
-  -- 2: a count above 512
-  too-many : Whole h ps ns cs → 512 < h .count → Why h ps ns cs 2
-  -- 6: the first class code above 2
-  code : {r : ℕ} → Whole h ps ns cs → h .count ≤ 512 → GivenAt (classFault cs) (length cs) 0 (suc r) → Why h ps ns cs (suc r)
-  -- 3 or 4: the first position that has one
-  position : {r : ℕ} → Whole h ps ns cs → h .count ≤ 512 → classesFault cs ≡ 0 → GivenAt (positionFault ps) (h .count) 0 (suc r) → Why h ps ns cs (suc r)
-  -- 3: a normal, the cap or an inside, after all positions; 0: none
-  vectors : Whole h ps ns cs → ringFault h ps cs ≡ 0 → {r : ℕ} → vectorsFault h ns ≡ r → Why h ps ns cs r
-
-module _ (h : Header) (ps ns : List Float) (cs : List ℕ) where
-  either : (b : Bool) → (_≡_ {A = ℕ} (cond b 0 1) 0) ⊎ (_≡_ {A = ℕ} (cond b 0 1) 1)
-  either true = inl refl
-  either false = inr refl
-
-  shape-is : (shapeFault h ps cs ≡ 0) ⊎ (shapeFault h ps cs ≡ 1)
+module _ (h : Header) (ps : List Float) (cs : List ℕ) where
+  is-shaped : Shaped h ps cs → shapeFault h ps cs ≡ 0
   unfolding shapeFault
-  shape-is = either ((countFits (h .state) (h .count) && threesOf (length ps) (h .count)) && eqb (length cs) (h .count))
+  is-shaped s = rw (shape-tells h ps cs .good s)
 
-  -- given, only if
-  ring-why : Whole h ps ns cs → (r : ℕ) → ringFault h ps cs ≡ suc r → Why h ps ns cs (suc r)
-  ring-why w r e = unfold ringFault in step (ltb 512 (h .count)) refl e
+  is-misshapen : Misshapen h ps cs → shapeFault h ps cs ≡ 1
+  unfolding shapeFault
+  is-misshapen m = rw (shape-tells h ps cs .bad m)
+
+  shaped-or : Shaped h ps cs ⊎ Misshapen h ps cs
+  shaped-or = one-told _ (shape-tells h ps cs)
+
+  one-later : {b : ℕ} → b ≡ 1 → first (shapeFault h ps cs) b ≡ 1
+  one-later e = ⊎-elim (λ s. first-right _ _ (is-shaped s) e) (λ m. first-left _ _ 0 (is-misshapen m)) shaped-or
+
+  -- cutting
+  why-cut : (k : ℕ) → CutWhy h ps cs k → cutFault h ps cs ≡ k
+  unfolding cutFault
+  why-cut _ (cut-misshapen m) = first-left _ _ 0 (is-misshapen m)
+  why-cut _ (cut-ring {k} s w) = first-right _ _ (is-shaped s) (ring-exact h ps cs .why-given k w)
+
+  cut-why : CutWhy h ps cs (cutFault h ps cs)
+  unfolding cutFault
+  cut-why = ⊎-elim
+      (λ s. rw (is-shaped s) (cut-ring s (ring-exact h ps cs .given-why _ refl)))
+      (λ m. rw (is-misshapen m) (cut-misshapen m))
+      shaped-or
+
+  cut-exact : Exactly (cutFault h ps cs) (CutWhy h ps cs)
+  cut-exact = exactly (CutWhy h ps cs) cut-why why-cut
+
+  -- the checker
+  state-exact : (s : State) → Exactly (ringOnly s) (StateWhy s)
+  state-exact s = exactly (StateWhy s) (state-why s) (why-state s)
     where
-      after : h .count ≤ 512 → (classesFault cs ≡ suc r) ⊎ ((classesFault cs ≡ 0) × (positionsFault ps (h .count) ≡ suc r)) → Why h ps ns cs (suc r)
-      after m (inl p) = unfold classesFault in code w m (firstOf-given (classFault cs) (length cs) 0 r p)
-      after m (inr p) = position w m (p .0) (firstOf-given (positionFault ps) (h .count) 0 r (p .1))
+      state-why : (s : State) → StateWhy s (ringOnly s)
+      state-why Empty = empty-loop
+      state-why Full = full-loop
+      state-why Ring = ring-loop
 
-      two : {r : ℕ} → 2 ≡ suc r → Why h ps ns cs 2 → Why h ps ns cs (suc r)
-      two e y = rw (← e) y
+      why-state : (s : State) (k : ℕ) → StateWhy s k → ringOnly s ≡ k
+      why-state _ _ empty-loop = refl
+      why-state _ _ full-loop = refl
+      why-state _ _ ring-loop = refl
 
-      step : (b : Bool) → ltb 512 (h .count) ≡ b → first (cond b 2 0) (first (classesFault cs) (positionsFault ps (h .count))) ≡ suc r → Why h ps ns cs (suc r)
-      step true b e = two e (too-many w (ltb-true _ _ b))
-      step false b e = after (ltb-false _ _ b) (first-given (classesFault cs) (positionsFault ps (h .count)) r e)
+  checked-exact : Exactly (first (ringFault h ps cs) (ringOnly (h .state))) (Then (RingWhy h ps cs) (StateWhy (h .state)))
+  checked-exact = then-exact (ring-exact h ps cs) (λ z. state-exact (h .state))
 
-  whole-why : Whole h ps ns cs → (k : ℕ) → first (ringFault h ps cs) (vectorsFault h ns) ≡ k → Why h ps ns cs k
-  whole-why w zero e = let p = first-zero _ _ e in vectors w (p .0) (p .1)
-  whole-why w (suc r) e = ⊎-elim (λ p. ring-why w r p) (λ p. vectors w (p .0) (p .1)) (first-given (ringFault h ps cs) (vectorsFault h ns) r e)
+  module _ (size : ℕ) where
+    why-check : (k : ℕ) → CheckWhy h ps cs size k → checkFault h ps cs size ≡ k
+    unfolding checkFault
+    why-check _ (check-misshapen m) = first-left _ _ 0 (is-misshapen m)
+    why-check _ (not-threes t) = one-later (rw (ne-eqb (size % 3) 0 t))
+    why-check _ (check-ring {k} s t w) = rw (is-shaped s, eq-eqb (size % 3) 0 t) (checked-exact .why-given k w)
 
-  pub given-why : (k : ℕ) → loopFault h ps ns cs ≡ k → Why h ps ns cs k
-  given-why k e = unfold loopFault in ⊎-elim (λ p. fits p (threesOf (length ns) (h .count)) refl e) (λ p. misfit p e) shape-is
-    where
-      misfit : shapeFault h ps cs ≡ 1 → first (shapeFault h ps cs) (first (cond (threesOf (length ns) (h .count)) 0 1) (first (ringFault h ps cs) (vectorsFault h ns))) ≡ k → Why h ps ns cs k
-      misfit p e =
-          let q : 1 ≡ k = sym (first-left _ _ 0 p) ∙ e in
-          rw (← q) (misshapen (inl p))
+    check-why : CheckWhy h ps cs size (checkFault h ps cs size)
+    unfolding checkFault
+    check-why = ⊎-elim
+        (λ s. rw (is-shaped s) (⊎-elim
+        (λ t. rw (eq-eqb (size % 3) 0 t) (check-ring s t (checked-exact .given-why _ refl)))
+        (λ t. rw (ne-eqb (size % 3) 0 t) (not-threes t))
+        (one-told _ (equal-tells (size % 3) 0))))
+        (λ m. rw (is-misshapen m) (check-misshapen m))
+        shaped-or
 
-      fits : shapeFault h ps cs ≡ 0 → (b : Bool) → threesOf (length ns) (h .count) ≡ b
-          → first (shapeFault h ps cs) (first (cond (threesOf (length ns) (h .count)) 0 1) (first (ringFault h ps cs) (vectorsFault h ns))) ≡ k → Why h ps ns cs k
-      fits p true b e = whole-why (record { shaped = p; normals = b }) k (rw (p, b) at e)
-      fits p false b e = let q : 1 ≡ k = rw (p, b) at e in rw (← q) (misshapen (inr (p, b)))
+    check-exact : Exactly (checkFault h ps cs size) (CheckWhy h ps cs size)
+    check-exact = exactly (CheckWhy h ps cs size) check-why why-check
 
-  -- if
-  within-whole : Whole h ps ns cs → loopFault h ps ns cs ≡ first (ringFault h ps cs) (vectorsFault h ns)
-  unfolding loopFault
-  within-whole w = rw (w .shaped, w .normals)
+  -- a whole loop
+  module _ (ns : List Float) where
+    read-exact : Exactly (first (ringFault h ps cs) (vectorsFault h ns)) (Then (RingWhy h ps cs) (VectorsWhy h ns))
+    read-exact = then-exact (ring-exact h ps cs) (λ z. vectors-exact h ns)
 
-  ring-first : {r : ℕ} → ringFault h ps cs ≡ suc r → first (ringFault h ps cs) (vectorsFault h ns) ≡ suc r
-  ring-first {r} e = first-left _ _ r e
+    normals-tell : Tells (threesOf (length ns) (h .count)) (length ns ≡ 3 * h .count) (length ns ≡ 3 * h .count → ⊥)
+    normals-tell = threes-tells (length ns) (h .count)
 
-  code-first : {r : ℕ} → h .count ≤ 512 → classesFault cs ≡ suc r → ringFault h ps cs ≡ suc r
-  unfolding ringFault
-  code-first {r} m e = rw (le-ltb 512 (h .count) m) (first-left _ _ r e)
+    why-loop : (k : ℕ) → LoopWhy h ps ns cs k → loopFault h ps ns cs ≡ k
+    unfolding loopFault
+    why-loop _ (loop-misshapen m) = first-left _ _ 0 (is-misshapen m)
+    why-loop _ (normals-disagree n) = one-later (rw (normals-tell .bad n))
+    why-loop _ (whole {k} s n w) = rw (is-shaped s, normals-tell .good n) (read-exact .why-given k w)
 
-  position-first : {r : ℕ} → h .count ≤ 512 → classesFault cs ≡ 0 → positionsFault ps (h .count) ≡ suc r → ringFault h ps cs ≡ suc r
-  unfolding ringFault
-  position-first m c e = rw (le-ltb 512 (h .count) m) (first-right _ _ c e)
+    loop-why : LoopWhy h ps ns cs (loopFault h ps ns cs)
+    unfolding loopFault
+    loop-why = ⊎-elim
+        (λ s. rw (is-shaped s) (⊎-elim
+        (λ n. rw (normals-tell .good n) (whole s n (read-exact .given-why _ refl)))
+        (λ n. rw (normals-tell .bad n) (normals-disagree n))
+        (one-told _ normals-tell)))
+        (λ m. rw (is-misshapen m) (loop-misshapen m))
+        shaped-or
 
-  many-first : 512 < h .count → ringFault h ps cs ≡ 2
-  unfolding ringFault
-  many-first m = rw (lt-ltb 512 (h .count) m)
+    loop-exact : Exactly (loopFault h ps ns cs) (LoopWhy h ps ns cs)
+    loop-exact = exactly (LoopWhy h ps ns cs) loop-why why-loop
 
-  codes-at : {r : ℕ} → GivenAt (classFault cs) (length cs) 0 (suc r) → classesFault cs ≡ suc r
-  unfolding classesFault
-  codes-at g = firstOf-at _ _ _ _ g
+pub exact : (h : Header) (ps : List Float) (cs : List ℕ) → Exact h ps cs
+exact h ps cs = record { cutting = cut-exact h ps cs; checking = check-exact h ps cs; whole-loop = loop-exact h ps cs }
 
-  pub why-given : (k : ℕ) → Why h ps ns cs k → loopFault h ps ns cs ≡ k
-  why-given _ (misshapen (inl p)) = unfold loopFault in first-left _ _ 0 p
-  why-given _ (misshapen (inr p)) = unfold loopFault in rw (p .0, p .1)
-  why-given _ (too-many w m) = within-whole w ∙ ring-first (many-first m)
-  why-given _ (code w m g) = within-whole w ∙ ring-first (code-first m (codes-at g))
-  why-given _ (position w m c g) = within-whole w ∙ ring-first (position-first m c (firstOf-at _ _ _ _ g))
-  why-given _ (vectors w p q) = within-whole w ∙ first-right _ _ p q
+-- of a whole loop: given, only if; and if
+module _ (h : Header) (ps ns : List Float) (cs : List ℕ) where
+  pub given-why : (k : ℕ) → loopFault h ps ns cs ≡ k → LoopWhy h ps ns cs k
+  given-why = exact h ps cs .whole-loop ns .given-why
+
+  pub why-given : (k : ℕ) → LoopWhy h ps ns cs k → loopFault h ps ns cs ≡ k
+  why-given = exact h ps cs .whole-loop ns .why-given

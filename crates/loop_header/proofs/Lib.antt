@@ -1,3 +1,5 @@
 pub mod Shapes
 pub mod Sounds
+pub mod Rings
+pub mod Vectors
 pub mod Exact

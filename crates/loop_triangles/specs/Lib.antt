@@ -1,2 +1,3 @@
 pub mod Triangles
 pub mod Demand
+pub mod Why

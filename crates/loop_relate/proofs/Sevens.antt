@@ -24,6 +24,7 @@ use Rattle.ring_pair.specs.Contacts.{isCrossed, contactOf}
 use Rattle.loop_ask.specs.Answers.{Told, refused, answer, judged}
 use Rattle.loop_ask.specs.Questions.{fullState, pairFault, equivalentLoops}
 use Rattle.loop_ask.specs.Places.{clearedCap}
+use Rattle.loop_relate.specs.Why.{Seven}
 use Rattle.loop_relate.specs.Relations.{emptyState, liesIn, byContainment, edgesIf, byEdges, equalIf, disjointIf, byCaps, fullIf, byStates, relateAnswer}
 
 -- ---- no loop is refused by a number above 6
@@ -132,18 +133,7 @@ both-in true false false e = absurd (never 1 e)
 both-in false false false e = absurd (never 0 e)
 
 module _ (h : Header) (ps ns : List Float) (cs : List ℕ) (o : Header) (qs ms : List Float) (ds : List ℕ) where
-  -- neither loop is refused, the first is not full, not both are empty, the caps meet, the loops are not equivalent, no edges cross, and each lies in the other
-  pub record Seven : Type 0 where
-    pub accepted : pairFault h ps ns cs o qs ms ds ≡ 0
-    pub not-full : fullState (h .state) ≡ false
-    pub not-empty : emptyState (h .state) && emptyState (o .state) ≡ false
-    pub meeting : intersects (clearedCap (h .cap)) (clearedCap (o .cap)) ≡ true
-    pub different : equivalentLoops h ps cs o qs ds ≡ false
-    pub uncrossed : isCrossed (contactOf ps ns (h .count) qs ms (o .count)) ≡ false
-    pub first-in : liesIn h ps o qs ms ≡ true
-    pub second-in : liesIn o qs h ps ns ≡ true
-
-  pub seven-only : relateAnswer h ps ns cs o qs ms ds ≡ refused 7 → Seven
+  pub seven-only : relateAnswer h ps ns cs o qs ms ds ≡ refused 7 → Seven h ps ns cs o qs ms ds
   unfolding relateAnswer byStates byCaps byEdges
   seven-only e =
       let a = after-judge _ _ (pair-most h ps ns cs o qs ms ds) e in
@@ -164,6 +154,6 @@ module _ (h : Header) (ps ns : List Float) (cs : List ℕ) (o : Header) (qs ms :
         second-in = i .1;
       }
 
-  pub seven-given : Seven → relateAnswer h ps ns cs o qs ms ds ≡ refused 7
+  pub seven-given : Seven h ps ns cs o qs ms ds → relateAnswer h ps ns cs o qs ms ds ≡ refused 7
   unfolding relateAnswer byStates byCaps byEdges
   seven-given s = simp (s .accepted, s .not-full, s .not-empty, s .meeting, s .different, s .uncrossed, s .first-in, s .second-in)

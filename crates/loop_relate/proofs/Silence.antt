@@ -1,20 +1,19 @@
 -- What an answer of `relate` says of the two loops, of a mute one and of a weak one too. Assumes nothing.
 use Prim.Native.Nat.{ℕ, zero, suc, _+_, _≤_, _<_}
 use mathlib.Core.Path.{_≡_, refl, sym, ap, _∙_}
-use mathlib.Core.Bool.{Bool, true, false, not, _&&_, _||_, false≢true}
+use mathlib.Core.Bool.{Bool, true, false, _&&_, _||_, false≢true}
 use mathlib.Core.Logic.{_⊎_, inl, inr}
 use mathlib.Core.List.{List}
 use native.Mathlib.Omega.{arith}
 use lib.Dec.{ltb}
 use lib.Ieee.{Float}
-use borrow.Author.Tests.{ltb-true, lt-ltb, le-ltb, eqb-true, not-true}
+use borrow.Author.Tests.{ltb-true, lt-ltb, le-ltb, eqb-true}
 use Rattle.numbers.specs.Choice.{if_then_else_}
 use Rattle.laws.proofs.Firsts.{first-zero}
 use Rattle.vec3.specs.declared.Vec3.{Vec3}
 use Rattle.vec3.specs.Vec.{posAt}
 use Rattle.vec3.specs.declared.Insides.{Insides}
 use Rattle.vec3.specs.declared.Insides.the-variants.{Absent, Two}
-use Rattle.cap.specs.Caps.{intersects}
 use Rattle.loop_header.specs.declared.State.{State}
 use Rattle.loop_header.specs.declared.State.the-variants.{Empty, Full, Ring}
 use Rattle.loop_header.specs.declared.Header.{Header}
@@ -22,14 +21,14 @@ use Rattle.loop_header.specs.Loops.{countFits, mute, shapeFault, ringFault, vec
 use Rattle.loop_header.proofs.Sounds.{sound}
 use Rattle.ring_pair.specs.declared.Probe.{Probe}
 use Rattle.ring_pair.specs.declared.Probe.the-variants.{Nowhere, Corner, Middle}
-use Rattle.ring_pair.specs.Contacts.{isCrossed, isTouched, contactOf}
 use Rattle.ring_pair.specs.Probes.{unambiguousPoint, askedMidpoint, middleProbe, firstCorner, firstMiddle}
-use Rattle.loop_ask.specs.Answers.{Told, refused, answer, judged}
+use Rattle.loop_ask.specs.Answers.{Told, refused, answer}
 use Rattle.loop_ask.specs.Places.{clearedCap, placeWithout, placeBy, placeOf}
 use Rattle.loop_ask.specs.Questions.{fullState, pairFault, equivalentLoops}
 use Rattle.loop_ask.proofs.Silence.{code-mute, mute-code}
-use Rattle.loop_relate.specs.Relations.{emptyState, isInside, placedInside, probeInside, liesIn, byContainment, edgesIf, byEdges, equalIf, disjointIf, byCaps, fullIf, byStates, relateAnswer, searched, midpointFor, neededMidpoint}
+use Rattle.loop_relate.specs.Relations.{isInside, placedInside, probeInside, liesIn, byEdges, byCaps, byStates, relateAnswer, searched, midpointFor, neededMidpoint}
 use Rattle.loop_relate.proofs.Sevens.{seven-only}
+use Rattle.loop_relate.proofs.Ways.{code, Way, refusal, equal, full, caps-apart, crossing, points, way}
 use Rattle.loop_relate.specs.Silence.{Unfound, nowhere, corner-outside, middle-outside, untold, Apart, caps, edges, marked, Silence}
 
 -- ---- one loop in another
@@ -84,54 +83,11 @@ module _ (h : Header) (ps : List Float) (o : Header) (qs ms : List Float) where
       go true q = absurd (false≢true (sym (nothing-in q) ∙ e))
       go false q = q
 
--- ---- the ways to an answer
-code : Told → ℕ
-code (refused k) = 10 + k
-code (answer n) = n
-
+-- ---- by the way to the answer
 module _ (h : Header) (ps ns : List Float) (cs : List ℕ) (o : Header) (qs ms : List Float) (ds : List ℕ) where
-  data Way : Told → Type 0 where
-    refusal : (k : ℕ) → Way (refused (suc k))
-    equal : Way (answer 5)
-    full : pairFault h ps ns cs o qs ms ds ≡ 0 → fullState (h .state) ≡ true → Way (answer 3)
-    caps-apart : intersects (clearedCap (h .cap)) (clearedCap (o .cap)) ≡ false → Way (answer 0)
-    crossing : Way (answer 2)
-    points : (t a b : Bool) → isCrossed (contactOf ps ns (h .count) qs ms (o .count)) ≡ false → isTouched (contactOf ps ns (h .count) qs ms (o .count)) ≡ t
-        → liesIn h ps o qs ms ≡ a → liesIn o qs h ps ns ≡ b → Way (byContainment t a b)
-
-  way : Way (relateAnswer h ps ns cs o qs ms ds)
-  unfolding relateAnswer byStates byCaps byEdges
-  way = by-judge (pairFault h ps ns cs o qs ms ds) refl
-    where
-      by-crossing : (b : Bool) → isCrossed (contactOf ps ns (h .count) qs ms (o .count)) ≡ b
-          → Way (edgesIf b (byContainment (isTouched (contactOf ps ns (h .count) qs ms (o .count))) (liesIn h ps o qs ms) (liesIn o qs h ps ns)))
-      by-crossing true e = crossing
-      by-crossing false e = points _ _ _ e refl refl refl
-
-      by-equal : (b : Bool) (t : Told) → Way t → Way (equalIf b t)
-      by-equal true t w = equal
-      by-equal false t w = w
-
-      by-caps : (b : Bool) (t : Told) → intersects (clearedCap (h .cap)) (clearedCap (o .cap)) ≡ b → Way t → Way (disjointIf (not b) t)
-      by-caps true t e w = w
-      by-caps false t e w = caps-apart e
-
-      by-full : pairFault h ps ns cs o qs ms ds ≡ 0 → (a b : Bool) (t : Told) → fullState (h .state) ≡ a → Way t → Way (fullIf a b t)
-      by-full f true true t e w = equal
-      by-full f true false t e w = full f e
-      by-full f false b t e w = w
-
-      by-judge : (k : ℕ) → pairFault h ps ns cs o qs ms ds ≡ k → Way (judged k (byStates h ps ns cs o qs ms ds))
-      by-judge (suc k) e = refusal k
-      by-judge zero e =
-          by-full e (fullState (h .state)) (fullState (o .state)) _ refl
-          (by-equal (emptyState (h .state) && emptyState (o .state)) _
-          (by-caps (intersects (clearedCap (h .cap)) (clearedCap (o .cap))) _ refl
-          (by-equal (equivalentLoops h ps cs o qs ds) _ (by-crossing (isCrossed (contactOf ps ns (h .count) qs ms (o .count))) refl))))
-
-  disjoint-by : (t : Told) → Way t → t ≡ answer 0 → Apart h ps ns o qs ms
+  disjoint-by : (t : Told) → Way h ps ns cs o qs ms ds t → t ≡ answer 0 → Apart h ps ns o qs ms
   unfolding code
-  disjoint-by _ (refusal k) e = absurd (omega (arith, ap code e))
+  disjoint-by _ (refusal k f) e = absurd (omega (arith, ap code e))
   disjoint-by _ equal e = absurd (omega (arith, ap code e))
   disjoint-by _ (full f s) e = absurd (omega (arith, ap code e))
   disjoint-by _ (caps-apart c) e = caps c
@@ -142,9 +98,9 @@ module _ (h : Header) (ps ns : List Float) (cs : List ℕ) (o : Header) (qs ms :
   disjoint-by _ (points true false false c q a b) e = absurd (omega (arith, ap code e))
   disjoint-by _ (points false false false c q a b) e = edges c q (unfound h ps o qs ms a) (unfound o qs h ps ns b)
 
-  within-by : (t : Told) → Way t → t ≡ answer 4 → mute o ≡ false
+  within-by : (t : Told) → Way h ps ns cs o qs ms ds t → t ≡ answer 4 → mute o ≡ false
   unfolding code
-  within-by _ (refusal k) e = absurd (omega (arith, ap code e))
+  within-by _ (refusal k f) e = absurd (omega (arith, ap code e))
   within-by _ equal e = absurd (omega (arith, ap code e))
   within-by _ (full f s) e = absurd (omega (arith, ap code e))
   within-by _ (caps-apart c) e = absurd (omega (arith, ap code e))
@@ -167,9 +123,9 @@ module _ (h : Header) (ps ns : List Float) (cs : List ℕ) (o : Header) (qs ms :
       go Ring e s c = absurd (false≢true s)
       go Full e s c = rw (none (h .count) (eqb-true (h .count) 0 (rw e at c)))
 
-  containing-by : (t : Told) → Way t → t ≡ answer 3 → mute h ≡ false
+  containing-by : (t : Told) → Way h ps ns cs o qs ms ds t → t ≡ answer 3 → mute h ≡ false
   unfolding code
-  containing-by _ (refusal k) e = absurd (omega (arith, ap code e))
+  containing-by _ (refusal k f) e = absurd (omega (arith, ap code e))
   containing-by _ equal e = absurd (omega (arith, ap code e))
   containing-by _ (full f s) e = full-speaks f s
   containing-by _ (caps-apart c) e = absurd (omega (arith, ap code e))

@@ -86,7 +86,6 @@ module _ (h : Header) (ps : List Float) (o : Header) (qs ms : List Float) where
 -- ---- by the way to the answer
 module _ (h : Header) (ps ns : List Float) (cs : List ℕ) (o : Header) (qs ms : List Float) (ds : List ℕ) where
   disjoint-by : (t : Told) → Way h ps ns cs o qs ms ds t → t ≡ answer 0 → Apart h ps ns o qs ms
-  unfolding code
   disjoint-by _ (refusal k f) e = absurd (omega (arith, ap code e))
   disjoint-by _ equal e = absurd (omega (arith, ap code e))
   disjoint-by _ (full f s) e = absurd (omega (arith, ap code e))
@@ -99,7 +98,6 @@ module _ (h : Header) (ps ns : List Float) (cs : List ℕ) (o : Header) (qs ms :
   disjoint-by _ (points false false false c q a b) e = edges c q (unfound h ps o qs ms a) (unfound o qs h ps ns b)
 
   within-by : (t : Told) → Way h ps ns cs o qs ms ds t → t ≡ answer 4 → mute o ≡ false
-  unfolding code
   within-by _ (refusal k f) e = absurd (omega (arith, ap code e))
   within-by _ equal e = absurd (omega (arith, ap code e))
   within-by _ (full f s) e = absurd (omega (arith, ap code e))
@@ -124,7 +122,6 @@ module _ (h : Header) (ps ns : List Float) (cs : List ℕ) (o : Header) (qs ms :
       go Full e s c = rw (none (h .count) (eqb-true (h .count) 0 (rw e at c)))
 
   containing-by : (t : Told) → Way h ps ns cs o qs ms ds t → t ≡ answer 3 → mute h ≡ false
-  unfolding code
   containing-by _ (refusal k f) e = absurd (omega (arith, ap code e))
   containing-by _ equal e = absurd (omega (arith, ap code e))
   containing-by _ (full f s) e = full-speaks f s

@@ -10,7 +10,7 @@ use Rattle.ring_corners.specs.Corners.{reversal, ringOf, normalsOf, classesOf, 
 use Rattle.loop_build.specs.Build as Build
 use Rattle.theorem_settled.specs.Settled.{built, blank, blank-classes, area-1, four-corners}
 use Rattle.theorem_settled.proofs.Computing as Computing
-use Rattle.theorem_wrongs.specs.Wrongs.{area-2, across, in-the-other, in-the-one, one-mean, repeated, five-positions, to-and-fro}
+use Rattle.theorem_wrongs.specs.Wrongs.{area-2, across, in-the-other, in-the-one, one-mean, round-z, repeated, five-positions, to-and-fro}
 
 abbrev pub ring : List Float → ℕ → Bool → List ℕ → Build.Outcome
 ring l n reversed classes = record {
@@ -72,3 +72,7 @@ five-positions-built = as-built five-positions 5 true (0 ∷ 1 ∷ 0 ∷ 2 ∷ 2
 pub to-and-fro-built : built to-and-fro 5 ≡ ring to-and-fro 5 false (0 ∷ 0 ∷ 1 ∷ 0 ∷ 0 ∷ [])
 unfolding Computing.of-building
 to-and-fro-built = as-built to-and-fro 5 false (0 ∷ 0 ∷ 1 ∷ 0 ∷ 0 ∷ []) (record { fine = refl; counted = refl; more = refl; turned = refl; classed = refl; other = refl })
+
+pub round-z-built : built round-z 3 ≡ ring round-z 3 true (0 ∷ 0 ∷ 0 ∷ [])
+unfolding Computing.of-building
+round-z-built = as-built round-z 3 true (0 ∷ 0 ∷ 0 ∷ []) (record { fine = refl; counted = refl; more = refl; turned = refl; classed = refl; other = refl })

@@ -6,6 +6,8 @@ use mathlib.Core.Bool.{Bool, true, false}
 use mathlib.Core.List.{List, [], _∷_}
 use lib.ListN.{getD, replicate}
 use lib.Ieee.{Float, binary64, toBits, nan}
+use denote.Ref.{RefT}
+use Rattle.outcomes.specs.Outcomes.{One}
 use Rattle.numbers.specs.F64.{zero}
 use Rattle.vec3.specs.declared.Insides.{Insides}
 use Rattle.vec3.specs.declared.Insides.the-variants.{Absent, Two}
@@ -17,18 +19,21 @@ use Rattle.base.specs.declared.Side.{Side}
 use Rattle.base.specs.declared.Side.the-variants.{Left, Right, Collinear}
 use Rattle.judge.specs.Judge.{vectorFault, faultOf}
 use Rattle.ring_turns.specs.Turns.{edgeNormals}
-use Rattle.loop_header.specs.Loops.{stateCode}
+use Rattle.loop_header.specs.declared.Header.{Header}
+use Rattle.loop_header.specs.Loops.{stateCode, emptyHeader}
 use Rattle.loop_build.specs.Build as Build
 use Rattle.loop_ask.specs.Answers as Answers
 use Rattle.loop_ask.specs.Questions.{placeAnswer}
+use Rattle.loop_triangles.proofs.triangulate as Triangulate
+use Rattle.loop_triangles.specs.declared.Cut.the-variants.{Triangles}
 use Rattle.loop_triangles.specs.Triangles.{triangulateOutcome}
 use Rattle.loop_relate.specs.Relations.{relateAnswer}
 use Rattle.theorem_settled.specs.Settled.{at, built, blank, blank-classes, area-1, four-corners, four-built, four-checked, full-one, empty-one, related}
 use Rattle.theorem_settled.proofs.Computing as Computing
 use Rattle.theorem_wrongs.proofs.Computing.{of-places, of-pairs}
-use Rattle.theorem_wrongs.proofs.Rings.{ring, area-1-built, area-2-built, across-built, in-the-other-built, in-the-one-built, one-mean-built, repeated-built, four-corners-built, five-positions-built, to-and-fro-built}
-use Rattle.theorem_wrongs.specs.Wrongs.{in-area-1, to-and-fro, header, placed, cutFrom, cutInto, checked, pair, toFull, classesBySide, cuttingAfresh, cutAfresh}
-use Rattle.theorem_wrongs.specs.Wrongs.{OutsideAlways, DisjointAlways, BlankRing, Fan, EmptyPrograms, Traps, OfNumbers, OfBuilding, OfAsking, OfCutting, OfRelating, Wrongs}
+use Rattle.theorem_wrongs.proofs.Rings.{ring, area-1-built, area-2-built, across-built, in-the-other-built, in-the-one-built, one-mean-built, round-z-built, repeated-built, four-corners-built, five-positions-built, to-and-fro-built}
+use Rattle.theorem_wrongs.specs.Wrongs.{in-area-1, to-and-fro, header, placed, cutFrom, cutInto, checked, pair, toFull, classesBySide, cuttingAfresh, cutAfresh, one-mean, round-z, muted, fourTo, between, answerAlone}
+use Rattle.theorem_wrongs.specs.Wrongs.{OutsideAlways, DisjointAlways, BlankRing, Fan, EmptyPrograms, Traps, OfNumbers, OfBuilding, OfAsking, OfCutting, OfRelating, OfMute, OfContracts, Wrongs}
 
 -- what tells two values apart
 abbrev told : Answers.Told → ℕ
@@ -216,6 +221,43 @@ of-relating = record {
   second-loop-first = λ e. below 101 106 4 refl (ap told (of-ring four-corners-built (λ o. beside-area-1 o ≡ Answers.refused 6) e));
 }
 
+-- ---- of a mute loop
+of-four : {o p x y : Build.Outcome} → o ≡ p → x ≡ y → (change : Header → Header) (t : Answers.Told) → between change o x ≡ t → between change p y ≡ t
+of-four {o} {p} {x} {y} q r change t e = of-ring r (λ z. between change p z ≡ t) (of-ring q (λ z. between change z x ≡ t) e)
+
+mute-to-full : told (toFull (built one-mean 4)) ≡ 4
+unfolding of-pairs of-places
+mute-to-full = of-ring (sym one-mean-built) (λ o. told (toFull o) ≡ 4) refl
+
+round-z-in : fourTo (λ h. h) (built round-z 3) ≡ Answers.answer 3
+unfolding of-pairs of-places
+round-z-in = of-four (sym four-corners-built) (sym round-z-built) (λ h. h) (Answers.answer 3) refl
+
+round-z-untold : fourTo muted (built round-z 3) ≡ Answers.answer 0
+unfolding of-pairs of-places
+round-z-untold = of-four (sym four-corners-built) (sym round-z-built) muted (Answers.answer 0) refl
+
+of-mute : OfMute
+of-mute = record {
+  disjoint-for-within = λ e. above 4 0 3 refl (sym mute-to-full ∙ ap told e);
+  with-insides = round-z-in;
+  without-insides = round-z-untold;
+  contained-by-a-mute-ring = λ e. below 0 3 2 refl (ap told (sym round-z-untold ∙ e));
+}
+
+-- ---- contracts: no triangle of the empty loop, and one number lent, at exit 0 or 1
+abbrev lent : {A : Type 0} → List A → RefT (List A)
+lent l = record { ptr = (0, 0); name = 0; now = l }
+
+of-contracts : OfContracts
+unfolding Computing.of-cutting
+of-contracts = record { buffer-left-open = left-open }
+  where
+    left-open : One Triangulate.Kinds.ps Triangulate.Kinds.r answerAlone → ⊥
+    left-open one =
+        let same = one ([], ([], ([], tt))) (emptyHeader, (lent [], (lent [], (lent (0 ∷ []), tt)))) (Triangles 0) (Triangles 0) (tt, (tt, (tt, (0 ∷ [], tt)))) (tt, (tt, (tt, (1 ∷ [], tt)))) refl refl in
+        below 0 1 0 refl (ap (λ t. getD (t .1 .1 .1 .0) 0 9) (same .1))
+
 pub wrongs : Wrongs
 wrongs = record {
   empty-programs = empty-programs;
@@ -225,4 +267,6 @@ wrongs = record {
   of-asking = of-asking;
   of-cutting = of-cutting;
   of-relating = of-relating;
+  of-mute = of-mute;
+  of-contracts = of-contracts;
 }

@@ -7,6 +7,9 @@ use mathlib.Core.List.{List, [], _∷_, _++_}
 use lib.Dec.{ltb}
 use lib.ListN.{length, replicate}
 use lib.Ieee.{Float, binary64, ofBits, nan}
+use denote.Ref.{now}
+use borrow.Fn.Kinds.{Out}
+use Rattle.outcomes.specs.Outcomes.{One}
 use Rattle.laws.specs.Loop.{iterate, flat}
 use Rattle.numbers.specs.F64 as F64
 use Rattle.numbers.specs.F64.{two, epsilon}
@@ -14,7 +17,7 @@ use Rattle.numbers.specs.Near.{near}
 use Rattle.root.specs.Root.{rootOf}
 use Rattle.angle.specs.Arctan.{atan2}
 use Rattle.vec3.specs.declared.Vec3.{Vec3}
-use Rattle.vec3.specs.declared.Insides.the-variants.{Two}
+use Rattle.vec3.specs.declared.Insides.the-variants.{Absent, Two}
 use Rattle.vec3.specs.declared.Point.the-variants.{At}
 use Rattle.vec3.specs.Vec.{axis-x, axis-y, axis-z, opposite, posAt, coords}
 use Rattle.vec3.specs.Points.{midpoint}
@@ -30,7 +33,8 @@ use Rattle.loop_header.specs.declared.State.the-variants.{Empty}
 use Rattle.loop_build.specs.Build as Build
 use Rattle.loop_ask.specs.Answers.{Told, refused, answer}
 use Rattle.loop_ask.specs.Questions.{placeAnswer}
-use Rattle.loop_triangles.specs.Triangles.{cutTold, triangulateOutcome, acceptsAnswer}
+use Rattle.loop_triangles.proofs.triangulate as Triangulate
+use Rattle.loop_triangles.specs.Triangles.{toldCut, cutTold, triangulateOutcome, acceptsAnswer}
 use Rattle.loop_relate.specs.Relations.{relateAnswer}
 use Rattle.theorem_settled.specs.Settled.{six-tenths, eight-tenths, minus-six-tenths, at, built, blank, blank-classes, area-1, flat-list, headerOf, four-built, four-cut, four-checked, full-one, empty-one, related}
 
@@ -45,6 +49,10 @@ ten = ofBits binary64 0x4024_0000_0000_0000
 
 abbrev pub just-within : Float
 just-within = ofBits binary64 0x3ff0_0000_0000_0800
+
+-- 0.96
+abbrev pub high : Float
+high = ofBits binary64 0x3fee_b851_eb85_1eb8
 
 abbrev pub tiny : Float
 tiny = ofBits binary64 0x1a70_0000_0000_0000
@@ -67,6 +75,10 @@ in-the-one = coords (opposite axis-y) ++ coords axis-z ++ coords axis-x
 -- X, X, Z, -Z, cut into (1,2,3) and (0,1,3): the first has no mean, since Z and -Z are antipodes, and with one mean alone the loop is mute
 abbrev pub one-mean : List Float
 one-mean = coords axis-x ++ coords axis-x ++ coords axis-z ++ coords (opposite axis-z)
+
+-- a triangle round Z within the ring of four corners: (0.28, 0, 0.96), (0, 0.28, 0.96), (-0.28, 0, 0.96)
+abbrev pub round-z : List Float
+round-z = coords (at (ofBits binary64 0x3fd1_eb85_1eb8_51ec) F64.zero high) ++ coords (at F64.zero (ofBits binary64 0x3fd1_eb85_1eb8_51ec) high) ++ coords (at (ofBits binary64 0xbfd1_eb85_1eb8_51ec) F64.zero high)
 
 -- X, Y, Y, Z: reversed, its two corners at Y have numbers 1 and 2
 abbrev pub repeated : List Float
@@ -246,6 +258,35 @@ pub record OfRelating : Type 0 where
   -- the second loop's 6 ahead of the first one's 1
   pub second-loop-first : relateAnswer (header four-built) [] [] [] (header (built area-1 3)) (built area-1 3 .positions) (built area-1 3 .normals) (3 ∷ 0 ∷ 0 ∷ []) ≡ refused 6 → ⊥
 
+-- ---- of a mute loop
+-- the header of a ring without its insides
+abbrev pub muted : Header → Header
+muted h = record { count = h .count; state = h .state; cap = h .cap; insides = Absent; reversed = h .reversed; weak = h .weak }
+
+-- how a ring with its header changed stands to another; the ring of four corners
+abbrev pub between : (Header → Header) → Build.Outcome → Build.Outcome → Told
+between change a b = relateAnswer (change (header a)) (a .positions) (a .normals) (a .classes) (header b) (b .positions) (b .normals) (b .classes)
+
+abbrev pub fourTo : (Header → Header) → Build.Outcome → Told
+fourTo change b = between change four-built b
+
+pub record OfMute : Type 0 where
+  -- a `relate` that answers Disjoint for a mute loop where the source says Within: one as built to the full loop
+  pub disjoint-for-within : toFull (built one-mean 4) ≡ answer 0 → ⊥
+  -- one that finds in a mute ring what the same ring with its insides contains: the answer there is Disjoint, which is no promise of empty air
+  pub with-insides : fourTo (λ h. h) (built round-z 3) ≡ answer 3
+  pub without-insides : fourTo muted (built round-z 3) ≡ answer 0
+  pub contained-by-a-mute-ring : fourTo muted (built round-z 3) ≡ answer 3 → ⊥
+
+-- ---- contracts
+-- that of `triangulate` without its buffer: the answer alone
+abbrev pub answerAlone : Out 3 Triangulate.Kinds.ps Triangulate.Kinds.r
+answerAlone κs a r s = toldCut r ≡ triangulateOutcome (a .0) (now (a .1 .0)) (now (a .1 .1 .0)) (now (a .1 .1 .1 .0)) .answer
+
+pub record OfContracts : Type 0 where
+  -- an `ensures` without its buffer leaves more than one outcome: `theorem_unique` cannot be proved of it
+  pub buffer-left-open : One Triangulate.Kinds.ps Triangulate.Kinds.r answerAlone → ⊥
+
 -- no program that meets its contract is one of them
 pub record Wrongs : Type 0 where
   pub empty-programs : EmptyPrograms
@@ -255,3 +296,5 @@ pub record Wrongs : Type 0 where
   pub of-asking : OfAsking
   pub of-cutting : OfCutting
   pub of-relating : OfRelating
+  pub of-mute : OfMute
+  pub of-contracts : OfContracts

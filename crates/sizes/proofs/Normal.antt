@@ -1,8 +1,9 @@
 -- A position that is not refused has no component above 2, and neither has the normal of two such. Assumes nothing.
-use mathlib.Core.Path.{_≡_, ap}
+use mathlib.Core.Path.{_≡_, ap, subst}
+use mathlib.Core.List.{List}
 use mathlib.Core.Bool.{Bool, true, false, _&&_}
 use Prim.Native.Nat.{ℕ, _-_, _*_, _^_, _≤_, _<_}
-use native.Mathlib.Nat.{mul-le-mul, mul-le-mul-right, le-of-mul-le-mul-right}
+use native.Mathlib.Nat.{mul-le-mul, mul-le-mul-right, le-of-mul-le-mul-right, zero-add}
 use native.Mathlib.Omega.{arith}
 use lib.Dec.{T, lit<, lit≤}
 use lib.Pow.{pow-add, pow-pos}
@@ -12,9 +13,10 @@ use Rattle.numbers.specs.F64 as F
 use Rattle.numbers.specs.Choice.{if_then_else_}
 use Rattle.numbers.specs.Finite.{finite}
 use Rattle.numbers.specs.Near.{abs}
+use Rattle.laws.proofs.Firsts.{firstOf-zero}
 use Rattle.vec3.specs.declared.Vec3.{Vec3}
 use Rattle.vec3.specs.Vec.{origin, same, dot, product, summed, parted, stableUnit, axis-x, axis-y, axis-z, axisFor, orthogonal, orthogonalTo}
-use Rattle.judge.specs.Judge.{finiteVec, withinRange, vectorFault, faultOf}
+use Rattle.judge.specs.Judge.{finiteVec, withinRange, vectorFault, faultOf, positionFault, positionsFault}
 use Rattle.fractions.specs.Frac.{magnitude}
 use Rattle.fractions.proofs.Ops.{le-cross}
 use Rattle.fractions.proofs.Sizes.{Fin, AtLeast, Size, le-by, square-upward, square-least, add-upward, add-least, least-add}
@@ -119,3 +121,10 @@ orthogonal-sized u h =
 pub normal-sized : (u v : Vec3) → Sized u 2 → Sized v 2 → Sized (orthogonalTo u v) 2
 unfolding orthogonalTo
 normal-sized u v h k = if-sized (same (stableUnit u v) origin) (orthogonal u) (stableUnit u v) 2 (orthogonal-sized u h) (stable-sized u v h k)
+
+-- ---- a list whose first n positions are not refused
+abbrev pub Fine : List Float → ℕ → Type 0
+Fine l n = (j : ℕ) → j < n → positionFault l j ≡ 0
+
+pub fine-of : (l : List Float) (m n : ℕ) → n ≤ m → positionsFault l m ≡ 0 → Fine l n
+fine-of l m n b e j h = subst (λ (z : ℕ). positionFault l z ≡ 0) (zero-add j) (firstOf-zero (positionFault l) m 0 e j (omega arith))

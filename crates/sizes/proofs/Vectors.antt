@@ -15,8 +15,11 @@ use Rattle.vec3.specs.declared.Vec3.{Vec3}
 use Rattle.vec3.specs.Vec.{product, summed, parted, plus, minus, opposite, mean3}
 use Rattle.judge.specs.Judge.{finiteVec}
 use Rattle.fractions.proofs.Round.{Plus}
-use Rattle.fractions.proofs.Sizes.{Fin, Size, Whole, mul-size, add-size, sub-size, neg-under}
+use Rattle.fractions.proofs.Sizes.{Fin, Size, Whole, mul-size, add-size, sub-size, neg-under, size-grow}
 use Rattle.sizes.proofs.Unit.{Sized, zero-size, vec-sized, unit-sized}
+
+pub sized-grow : (v : Vec3) (a b : ℕ) → a ≤ b → Sized v a → Sized v b
+sized-grow v a b l h = record { x-is = size-grow (v .x) a b l (h .x-is); y-is = size-grow (v .y) a b l (h .y-is); z-is = size-grow (v .z) a b l (h .z-is) }
 
 -- ---- products
 pub product-sized : (u v : Vec3) (a b : ℕ) → a ≤ 8 → b ≤ 8 → Sized u a → Sized v b → Sized (product u v) (a * b + a * b)

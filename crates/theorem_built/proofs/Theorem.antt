@@ -41,7 +41,7 @@ use Rattle.loop_triangles.proofs.Demand.{cut-is}
 use Rattle.loop_relate.specs.Relations.{emptyState, liesIn, byContainment, edgesIf, byEdges, equalIf, disjointIf, byCaps, fullIf, byStates, relateAnswer}
 use Rattle.loop_relate.proofs.Sevens.{seven-only}
 use Rattle.theorem_built.specs.Built.{Answers, triangleCount, Cut, all, no-ear, Checked, Related, related, each-in-other, Built}
-use Rattle.theorem_built.proofs.Whole.{whole}
+use Rattle.theorem_built.proofs.Whole.{some, whole}
 
 -- ---- an answer, where nothing is refused
 told : (m k : ℕ) → k ≤ m → Answers m (answer k)
@@ -244,6 +244,7 @@ module _ (h : Header) (ps ns : List Float) (cs : List ℕ) (o : Header) (qs ms :
 
 pub built : Built
 built = record {
+  build = some;
   loop-fault = whole;
   contains-position = λ a b. place (a .header) (a .positions) (a .normals) (a .classes) (whole a b);
   has-vertex = λ a b. vertex (a .header) (a .positions) (a .normals) (a .classes) (whole a b);

@@ -97,5 +97,15 @@ module _ (l : List Float) (d : Doubles l) {h : Header} where
   of-refusal zero ps ns cs z e = of-count (ltb (openedCount l) 3) (openedCount l) refl refl (fine l ps ns cs z .0) ps ns cs e
   of-refusal (suc k) ps ns cs z e = absurd (let x : _≡_ {A = ℕ} 0 1 = cc in omega arith)
 
+some-loop : (few : Bool) (l : List Float) (n : ℕ) (ps ns : List Float) (cs : List ℕ) → (h : Header) × (outcomeIf few l n ps ns cs .answer ≡ B.loop h)
+some-loop true l n ps ns cs = (emptyHeader, refl)
+some-loop false l n ps ns cs = (made l n ps ns cs .header, refl)
+
+pub some : (l ps ns : List Float) (cs : List ℕ) → Doubles l → refusal l ps ns cs ≡ 0 → (h : Header) × AsBuilt (handedBack h (buildOutcome l ps ns cs))
+some l ps ns cs d z =
+    let s = some-loop (ltb (openedCount l) 3) l (openedCount l) ps ns cs in
+    let e : buildOutcome l ps ns cs .answer ≡ B.loop (s .0) = unfold buildOutcome in rw z (s .1) in
+    (s .0, as-built l ps ns cs (s .0) d e)
+
 pub whole : (a : Loop) → AsBuilt a → ask loopFault a ≡ 0
 whole _ (as-built l ps ns cs h d e) = unfold buildOutcome in of-refusal l d (refusal l ps ns cs) ps ns cs refl e

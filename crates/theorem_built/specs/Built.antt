@@ -14,7 +14,7 @@ use Rattle.loop_header.specs.declared.State.the-variants.{Empty, Full, Ring}
 use Rattle.loop_header.specs.declared.Header.{Header}
 use Rattle.loop_header.specs.Loops.{loopFault}
 use Rattle.loop_build.specs.Build as Build
-use Rattle.loop_build.specs.Build.{Doubles, buildOutcome}
+use Rattle.loop_build.specs.Build.{Doubles, refusal, buildOutcome}
 use Rattle.loop_ask.specs.Answers.{Told, refused, answer}
 use Rattle.loop_ask.specs.Questions.{placeAnswer, vertexAnswer, onEdgeAnswer, convexAnswer, simpleAnswer, equivalentAnswer}
 use Rattle.loop_triangles.specs.Triangles.{triangulateOutcome, acceptsAnswer}
@@ -69,6 +69,8 @@ pub data Related (h o : Header) : Told → Type 0 where
 
 -- SCOPE 25, 27: of loops as built; for a query that is fine, an output with room and a triangle slice in threes
 pub record Built : Type 0 where
+  -- every list of doubles that `build` does not refuse makes one
+  pub build : (l ps ns : List Float) (cs : List ℕ) → Doubles l → refusal l ps ns cs ≡ 0 → (h : Header) × AsBuilt (handedBack h (buildOutcome l ps ns cs))
   -- none of 1 to 4 and 6 is given to the loop itself
   pub loop-fault : (a : Loop) → AsBuilt a → ask loopFault a ≡ 0
   pub contains-position : (a : Loop) → AsBuilt a → (p : Vec3) → faultOf (cleared p) ≡ 0 → Answers 2 (ask placeAnswer a p)

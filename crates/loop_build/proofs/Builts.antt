@@ -7,8 +7,7 @@ use mathlib.Core.List.{List, [], _∷_}
 use native.Mathlib.Nat.{zero-add}
 use native.Mathlib.Omega.{arith}
 use lib.ListN.{length, getD}
-use lib.Dec.{T}
-use lib.Ieee.{Float, nan, binary64, fits, lt}
+use lib.Ieee.{Float, lt}
 use borrow.Author.Tests.{le-leb, le-ltb, eq-eqb}
 use Rattle.numbers.specs.F64 as F
 use Rattle.numbers.specs.Near.{near}
@@ -24,12 +23,8 @@ use Rattle.minor_arc.proofs.Clears.{clear-once}
 use Rattle.ring_corners.specs.Corners.{cornerSource, cornerAt, classBy, classAt, ringOf, classesOf}
 use Rattle.vec3.proofs.Arrays.{size, raw-written}
 use Rattle.loop_header.specs.Loops.{threesOf, shapeFault, classFault, classesFault, ringFault, cutFault}
-use Rattle.loop_build.specs.Build.{listFault, openedCount, ringHeader}
+use Rattle.loop_build.specs.Build.{Doubles, listFault, openedCount, ringHeader}
 use Rattle.loop_build.proofs.Rooms.{Listed, list-fine}
-
--- each element is a double
-abbrev pub Doubles : List Float → Type 0
-Doubles l = (i : ℕ) → i < length l → T (fits binary64 (getD l i nan))
 
 -- ---- classes
 either : (b c : Bool) → _≤_ (if b then 2 else (if c then 0 else 1)) 2

@@ -1,11 +1,11 @@
 -- What building a loop answers, and what it leaves in the slices that it was lent (SCOPE 11 to 15). Definitions only.
-use Prim.Native.Nat.{ℕ, zero, suc, _*_, _/_, _%_, _≤_}
+use Prim.Native.Nat.{ℕ, zero, suc, _*_, _/_, _%_, _≤_, _<_}
 use mathlib.Core.Path.{_≡_}
 use mathlib.Core.Bool.{Bool, true, false, _&&_, _||_, cond}
 use mathlib.Core.List.{List, _++_}
-use lib.ListN.{length, drop}
-use lib.Dec.{ltb, leb, eqb}
-use lib.Ieee.{Float}
+use lib.ListN.{length, drop, getD}
+use lib.Dec.{T, ltb, leb, eqb}
+use lib.Ieee.{Float, nan, binary64, fits}
 use Rattle.laws.specs.Loop.{first}
 use Rattle.angle.specs.declared.Angle.{Angle}
 use Rattle.angle.specs.Angles.{weak}
@@ -21,6 +21,10 @@ use Rattle.loop_header.specs.declared.State.the-variants.{Ring}
 use Rattle.loop_header.specs.Loops.{emptyHeader, fullHeader}
 use Rattle.loop_build.specs.declared.Built.{Built}
 use Rattle.loop_build.specs.declared.Built.the-variants.{Refused, Loop}
+
+-- SCOPE 1: each element is a double, as in every slice of floats that is lent
+abbrev pub Doubles : List Float → Type 0
+Doubles l = (i : ℕ) → i < length l → T (fits binary64 (getD l i nan))
 
 -- SCOPE 25: 1 where the list is not in threes, 2 above 512 positions, then 3 and 4 position by position
 unfoldable pub listFault : List Float → ℕ

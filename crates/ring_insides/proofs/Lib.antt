@@ -1,1 +1,2 @@
 pub mod Seekings
+pub mod Means

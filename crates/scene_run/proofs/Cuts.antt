@@ -22,10 +22,10 @@ use Rattle.vec3.proofs.Arrays.{size}
 use Rattle.ring_cut.specs.Cut as C
 use Rattle.loop_header.specs.declared.Header.{Header}
 use Rattle.loop_header.specs.Loops.{emptyHeader, fullHeader, threesOf, shapeFault, classesFault, ringFault, cutFault}
-use Rattle.loop_build.specs.Build.{loop, openedCount, listFault, refusal, ringHeader, madeIf, made, outcomeOf, outcomeIf, outcomeBy, buildOutcome}
+use Rattle.loop_build.specs.Build.{Doubles, loop, openedCount, listFault, refusal, ringHeader, madeIf, made, outcomeOf, outcomeIf, outcomeBy, buildOutcome}
 use Rattle.loop_build.specs.Build as B
 use Rattle.loop_build.proofs.Rooms.{list-fine, fine}
-use Rattle.loop_build.proofs.Builts.{Doubles, codes-count, built-cuttable}
+use Rattle.loop_build.proofs.Builts.{codes-count, built-cuttable}
 use Rattle.loop_ask.specs.Answers.{Told, refused, answer}
 use Rattle.loop_triangles.specs.Triangles.{cutTold, fullOutcome, triangulateOutcome}
 use Rattle.loop_triangles.specs.Triangles as T

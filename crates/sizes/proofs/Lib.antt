@@ -1,0 +1,4 @@
+pub mod Inverse
+pub mod Unit
+pub mod Vectors
+pub mod Normal

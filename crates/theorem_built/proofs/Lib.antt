@@ -1,0 +1,5 @@
+pub mod Normals
+pub mod Caps
+pub mod Insides
+pub mod Whole
+pub mod Theorem

@@ -1,0 +1,111 @@
+-- A loop as built is not refused, and of its three states it has the header and the slices that building gives. Assumes nothing.
+use Prim.Native.Nat.{ℕ, zero, suc, _*_, _/_, _≤_}
+use mathlib.Core.Path.{_≡_, refl}
+use mathlib.Core.Bool.{Bool, true, false, cond}
+use mathlib.Core.List.{List, []}
+use native.Mathlib.Omega.{arith}
+use lib.ListN.{length, drop}
+use lib.Seq.{take-at}
+use lib.Dec.{ltb, eqb}
+use lib.Ieee.{Float, ofBits}
+use borrow.Author.Tests.{ltb-false, eq-eqb}
+use Rattle.laws.specs.Loop.{firstOf}
+use Rattle.laws.proofs.Firsts.{first-fine, first-zero}
+use Rattle.vec3.specs.Vec.{posAt}
+use Rattle.vec3.proofs.Arrays.{size}
+use Rattle.sizes.proofs.Normal.{Fine, fine-of, position-sized}
+use Rattle.ring_corners.specs.Corners.{reversal, cornerAt, normalAt, ringOf, normalsOf, classesOf, allBoth}
+use Rattle.ring_cut.specs.Cut.{Ring}
+use Rattle.loop_header.specs.declared.Header.{Header}
+use Rattle.loop_header.specs.Loops.{emptyHeader, fullHeader, threesOf, shapeFault, classesFault, ringFault, capFault, vectorsFault, cutFault, loopFault}
+use Rattle.loop_build.specs.Build as B
+use Rattle.loop_build.specs.Build.{Doubles, listFault, openedCount, refusal, ringHeader, madeIf, made, outcomeOf, outcomeIf, outcomeBy, buildOutcome}
+use Rattle.loop_build.proofs.Rooms.{Listed, list-fine, fine}
+use Rattle.loop_build.proofs.Builts.{codes-count, positions-fine, built-cuttable}
+use Rattle.theorem_built.specs.Built.{Loop, handedBack, AsBuilt, as-built, ask}
+use Rattle.theorem_built.proofs.Normals.{normals-fine}
+use Rattle.theorem_built.proofs.Caps.{bounded-fine, cap-bounded}
+use Rattle.theorem_built.proofs.Insides.{insides-fine}
+
+-- ---- a ring
+module _ (l : List Float) (d : Doubles l) (f : listFault l ≡ 0) (reversed : Bool) (n : ℕ) (o : n ≡ openedCount l) (least : 3 ≤ n) where
+  known : Listed l
+  known = list-fine l f
+
+  listed : Fine l n
+  listed = fine-of l (length l / 3) n (omega (arith, known .within, known .threes, o)) (known .positions-fine)
+
+  corners : Fine (ringOf l n reversed) n
+  corners = fine-of (ringOf l n reversed) n n (omega arith) (positions-fine l d f reversed n o)
+
+  ring : Ring (ringOf l n reversed) (classesOf l n reversed)
+  ring =
+      let s = size (cornerAt l n reversed) n in
+      let q = codes-count l n reversed in
+      record { whole = omega (arith, s, q); least = omega (arith, q); most = omega (arith, q, known .small, o) }
+
+  vectors-fine : vectorsFault (ringHeader l n reversed) (normalsOf l n reversed) ≡ 0
+  unfolding vectorsFault ringHeader
+  vectors-fine =
+      let q = codes-count l n reversed in
+      first-fine _ _ (normals-fine l n listed reversed)
+      (first-fine _ _ (bounded-fine _ (cap-bounded l n listed (omega (arith, known .small, o))))
+      (insides-fine (ringOf l n reversed) (classesOf l n reversed) ring (λ j h. position-sized (posAt (ringOf l n reversed) j) (corners j (omega (arith, q))))))
+
+  pub ring-fine : loopFault (ringHeader l n reversed) (ringOf l n reversed) (normalsOf l n reversed) (classesOf l n reversed) ≡ 0
+  unfolding loopFault cutFault threesOf ringHeader
+  ring-fine =
+      let h = ringHeader l n reversed in
+      let ps = ringOf l n reversed in
+      let cs = classesOf l n reversed in
+      let c = first-zero (shapeFault h ps cs) (ringFault h ps cs) (built-cuttable l d f reversed n o least) in
+      let m : _≡_ {A = ℕ} (cond (eqb (length (normalsOf l n reversed)) (3 * n)) 0 1) 0 = rw (eq-eqb _ _ (size (normalAt l n reversed) n)) in
+      first-fine _ _ (c .0) (first-fine _ _ m (first-fine _ _ (c .1) vectors-fine))
+
+-- ---- the two others
+pub empty-fine : loopFault emptyHeader [] [] [] ≡ 0
+unfolding loopFault shapeFault threesOf ringFault classesFault vectorsFault capFault firstOf ofBits
+empty-fine = refl
+
+pub full-fine : (weak : Bool) → loopFault (fullHeader weak) [] [] [] ≡ 0
+unfolding loopFault shapeFault threesOf ringFault classesFault vectorsFault capFault firstOf ofBits
+full-fine weak = refl
+
+-- ---- what `build` answers, by its refusal, the opened count and the classes
+same : {a b : Header} → B.loop a ≡ B.loop b → a ≡ b
+same e = cc
+
+module _ (l : List Float) (d : Doubles l) {h : Header} where
+  of-made : (both reversed : Bool) (n : ℕ) → n ≡ openedCount l → 3 ≤ n → listFault l ≡ 0 → (ps ns : List Float) (cs : List ℕ)
+      → B.loop (madeIf both l n reversed ps ns cs .header) ≡ B.loop h → ask loopFault (handedBack h (outcomeOf (madeIf both l n reversed ps ns cs))) ≡ 0
+  unfolding ringHeader
+  of-made true reversed n o g f ps ns cs e = rw (← same e) (full-fine _)
+  of-made false reversed n o g f ps ns cs e =
+      let p = take-at (ringOf l n reversed) (drop (3 * n) ps) (3 * n) (size (cornerAt l n reversed) n) in
+      let m = take-at (normalsOf l n reversed) (drop (3 * n) ns) (3 * n) (size (normalAt l n reversed) n) in
+      let c = take-at (classesOf l n reversed) (drop n cs) n (codes-count l n reversed) in
+      rw (← same e, p, m, c) (ring-fine l d f reversed n o g)
+
+  of-count : (few : Bool) (n : ℕ) → ltb n 3 ≡ few → n ≡ openedCount l → listFault l ≡ 0 → (ps ns : List Float) (cs : List ℕ)
+      → outcomeIf few l n ps ns cs .answer ≡ B.loop h → ask loopFault (handedBack h (outcomeIf few l n ps ns cs)) ≡ 0
+  unfolding made
+  of-count true n t o f ps ns cs e = rw (← same e) empty-fine
+  of-count false n t o f ps ns cs e = of-made (allBoth (classesOf l n (reversal l n))) (reversal l n) n o (ltb-false _ _ t) f ps ns cs e
+
+  of-refusal : (k : ℕ) (ps ns : List Float) (cs : List ℕ) → refusal l ps ns cs ≡ k
+      → outcomeBy k l ps ns cs .answer ≡ B.loop h → ask loopFault (handedBack h (outcomeBy k l ps ns cs)) ≡ 0
+  of-refusal zero ps ns cs z e = of-count (ltb (openedCount l) 3) (openedCount l) refl refl (fine l ps ns cs z .0) ps ns cs e
+  of-refusal (suc k) ps ns cs z e = absurd (let x : _≡_ {A = ℕ} 0 1 = cc in omega arith)
+
+some-loop : (few : Bool) (l : List Float) (n : ℕ) (ps ns : List Float) (cs : List ℕ) → (h : Header) × (outcomeIf few l n ps ns cs .answer ≡ B.loop h)
+some-loop true l n ps ns cs = (emptyHeader, refl)
+some-loop false l n ps ns cs = (made l n ps ns cs .header, refl)
+
+pub some : (l ps ns : List Float) (cs : List ℕ) → Doubles l → refusal l ps ns cs ≡ 0 → (h : Header) × AsBuilt (handedBack h (buildOutcome l ps ns cs))
+some l ps ns cs d z =
+    let s = some-loop (ltb (openedCount l) 3) l (openedCount l) ps ns cs in
+    let e : buildOutcome l ps ns cs .answer ≡ B.loop (s .0) = unfold buildOutcome in rw z (s .1) in
+    (s .0, as-built l ps ns cs (s .0) d e)
+
+pub whole : (a : Loop) → AsBuilt a → ask loopFault a ≡ 0
+whole _ (as-built l ps ns cs h d e) = unfold buildOutcome in of-refusal l d (refusal l ps ns cs) ps ns cs refl e

@@ -32,7 +32,8 @@ use Rattle.scene_steps.specs.declared.Stepped.{Stepped}
 use Rattle.scene_notes.specs.Noted.{Scene, indexOf, areasOf, view, passedNotes, Addable, areaAt, addedNotes, judgeArea}
 use Rattle.scene_notes.proofs.Tables.{met-count, Allowed, allowed}
 use Rattle.scene_store.specs.Store.{nobody, after, builtAt, triangleCount, placeIn, pairIn, Lies, Room}
-use Rattle.scene_steps.specs.Steps.{passedBy, withArea, areaMade, areaStep, placeTold, placeStep, pairTold, pairStep, Good, StepOutcome, left, notesOf, outcomeOf, areaMadeOutcome, areaOutcome, placeOutcome, pairOutcome, placeReport, pairReport, Sized, Ready}
+use Rattle.scene_steps.specs.Steps.{passedBy, withArea, areaMade, areaStep, placeTold, placeStep, pairTold, pairStep, Good, placeReport, pairReport, Sized, Ready}
+use Rattle.scene_steps.specs.Steps.{StepOutcome, left, notesOf, outcomeOf, areaMadeOutcome, areaOutcome, placeOutcome, pairOutcome}
 use Rattle.scene_store.proofs.Counts.{built-count}
 
 -- an area that was met lies in the store

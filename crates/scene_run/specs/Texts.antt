@@ -52,6 +52,6 @@ pub record Lined (text : List ℕ) : Type 0 where
   pub right-last : Printed last
   pub counted : (n : ℕ) → last ≡ End n → n ≡ length before
 
--- for every input: bytes are below 256, of any number
+-- for every input, however long; that its entries are bytes is asked since an area's number is read from two of them
 abbrev pub Texts : Type 0
 Texts = (s : List ℕ) → ((i : ℕ) → i < length s → getD s i 0 < 256) → Lined (sceneText s)

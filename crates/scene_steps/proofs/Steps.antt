@@ -33,7 +33,7 @@ use Rattle.scene_notes.specs.Noted.{Scene, indexOf, areasOf, view, passedNotes,
 use Rattle.scene_notes.proofs.Tables.{met-count, Allowed, allowed}
 use Rattle.scene_store.specs.Store.{nobody, after, builtAt, triangleCount, placeIn, pairIn, Lies, Room}
 use Rattle.scene_steps.specs.Steps.{passedBy, withArea, areaMade, areaStep, placeTold, placeStep, pairTold, pairStep, Good, placeReport, pairReport, Sized, Ready}
-use Rattle.scene_steps.specs.Steps.{StepOutcome, left, notesOf, outcomeOf, areaMadeOutcome, areaOutcome, placeOutcome, pairOutcome}
+use Rattle.scene_steps.specs.Steps.{StepOutcome, outcomeWith, notesOf, outcomeOf, areaMadeOutcome, areaOutcome, placeOutcome, pairOutcome}
 use Rattle.scene_store.proofs.Counts.{built-count}
 
 -- an area that was met lies in the store
@@ -61,37 +61,37 @@ module _ {s : List ℕ} {c : Notes} {size : ℕ} {ps ns : List Float} {cs : List
   passed-notes n = rw (met-count c (r .kept), take-append-drop (c .met) (c .areas))
 
   -- ---- a place
-  place-same : (t : Told) (number : ℕ) → left (placeReport t number) (passedNotes c 32) ps ns cs ≡ outcomeOf (placeTold here number t) c (passedNotes c 32) ps ns cs
+  place-same : (t : Told) (number : ℕ) → outcomeWith (placeReport t number) (passedNotes c 32) ps ns cs ≡ outcomeOf (placeTold here number t) c (passedNotes c 32) ps ns cs
   place-same (Ask.refused k) number = refl
-  place-same (Ask.answer n) number = ap (λ (x : Notes). left (Report.Line (Line.Place number n)) x ps ns cs) (passed-notes 32)
+  place-same (Ask.answer n) number = ap (λ (x : Notes). outcomeWith (Report.Line (Line.Place number n)) x ps ns cs) (passed-notes 32)
 
-  pub place-missing : (number : ℕ) {i : ℕ} → i ≡ indexOf (areasOf c) number → c .met ≤ i → left (Report.Bad NotMet) c ps ns cs ≡ placeOutcome s c number ps ns cs
+  pub place-missing : (number : ℕ) {i : ℕ} → i ≡ indexOf (areasOf c) number → c .met ≤ i → outcomeWith (Report.Bad NotMet) c ps ns cs ≡ placeOutcome s c number ps ns cs
   unfolding placeStep
   place-missing number e h = rw (← e, met-count c (r .kept), le-ltb _ _ h)
 
   pub place-met : (number : ℕ) {i : ℕ} {a : Area} {p : Vec3} {t : Told} {o : Report} {n : Notes} → i ≡ indexOf (areasOf c) number → i < c .met
       → a ≡ getD (areasOf c) i nobody → p ≡ vecOf s (c .at + 8) → t ≡ placeIn a ps ns cs p → o ≡ placeReport t number → n ≡ passedNotes c 32
-      → left o n ps ns cs ≡ placeOutcome s c number ps ns cs
+      → outcomeWith o n ps ns cs ≡ placeOutcome s c number ps ns cs
   unfolding placeStep
   place-met number {t = t} e h ea ep et eo en = rw (en, eo, ← e, met-count c (r .kept), lt-ltb _ _ h, ← ea, ← ep, ← et) (place-same t number)
 
   -- ---- a pair
-  pair-same : (t : Told) (number other : ℕ) → left (pairReport t number other) (passedNotes c 10) ps ns cs ≡ outcomeOf (pairTold here number other t) c (passedNotes c 10) ps ns cs
+  pair-same : (t : Told) (number other : ℕ) → outcomeWith (pairReport t number other) (passedNotes c 10) ps ns cs ≡ outcomeOf (pairTold here number other t) c (passedNotes c 10) ps ns cs
   pair-same (Ask.refused k) number other = refl
-  pair-same (Ask.answer n) number other = ap (λ (x : Notes). left (Report.Line (Line.Pair number other n)) x ps ns cs) (passed-notes 10)
+  pair-same (Ask.answer n) number other = ap (λ (x : Notes). outcomeWith (Report.Line (Line.Pair number other n)) x ps ns cs) (passed-notes 10)
 
-  pub pair-missing : (number other : ℕ) {i : ℕ} → i ≡ indexOf (areasOf c) number → c .met ≤ i → left (Report.Bad NotMet) c ps ns cs ≡ pairOutcome c number other ps ns cs
+  pub pair-missing : (number other : ℕ) {i : ℕ} → i ≡ indexOf (areasOf c) number → c .met ≤ i → outcomeWith (Report.Bad NotMet) c ps ns cs ≡ pairOutcome c number other ps ns cs
   unfolding pairStep
   pair-missing number other e h = rw (← e, met-count c (r .kept), le-ltb _ _ h)
 
   pub pair-half : (number other : ℕ) {i j : ℕ} → i ≡ indexOf (areasOf c) number → i < c .met → j ≡ indexOf (areasOf c) other → c .met ≤ j
-      → left (Report.Bad NotMet) c ps ns cs ≡ pairOutcome c number other ps ns cs
+      → outcomeWith (Report.Bad NotMet) c ps ns cs ≡ pairOutcome c number other ps ns cs
   unfolding pairStep
   pair-half number other e h f g = rw (← e, ← f, met-count c (r .kept), lt-ltb _ _ h, le-ltb _ _ g)
 
   pub pair-met : (number other : ℕ) {i j : ℕ} {a b : Area} {t : Told} {o : Report} {n : Notes} → i ≡ indexOf (areasOf c) number → i < c .met → j ≡ indexOf (areasOf c) other → j < c .met
       → a ≡ getD (areasOf c) i nobody → b ≡ getD (areasOf c) j nobody → t ≡ pairIn a b ps ns cs → o ≡ pairReport t number other → n ≡ passedNotes c 10
-      → left o n ps ns cs ≡ pairOutcome c number other ps ns cs
+      → outcomeWith o n ps ns cs ≡ pairOutcome c number other ps ns cs
   unfolding pairStep
   pair-met number other {t = t} e h f g ea eb et eo en =
       rw (en, eo, ← e, ← f, met-count c (r .kept), lt-ltb _ _ h, lt-ltb _ _ g, ← ea, ← eb, ← et) (pair-same t number other)
@@ -133,12 +133,12 @@ module _ {s : List ℕ} {c : Notes} {ps ns : List Float} {cs : List ℕ} (number
 
   -- what the build answered and left
   module _ {b : Built} {ps′ ns′ : List Float} {cs′ : List ℕ} (e : record { answer = B.told b; positions = ps′; normals = ns′; classes = cs′ } ≡ builtAt (floatsAt s (c .at + 8) count) (c .used) ps ns cs) where
-    pub area-refused : {k : ℕ} → b ≡ Built.Refused k → left (Report.Refused k) c ps′ ns′ cs′ ≡ areaMadeOutcome s c number count ps ns cs
+    pub area-refused : {k : ℕ} → b ≡ Built.Refused k → outcomeWith (Report.Refused k) c ps′ ns′ cs′ ≡ areaMadeOutcome s c number count ps ns cs
     unfolding areaMade
     area-refused {k} q =
         let l = floatsAt s (c .at + 8) count in
         let z = store-kept l (c .used) ps ns cs (sym (ap B.told q) ∙ ap (λ (o : B.Outcome). o .answer) e) in
-        ap (λ (o : B.Outcome). left (Report.Refused k) c (o .positions) (o .normals) (o .classes)) (e ∙ z) ∙ rw z
+        ap (λ (o : B.Outcome). outcomeWith (Report.Refused k) c (o .positions) (o .normals) (o .classes)) (e ∙ z) ∙ rw z
 
     module _ {h : Header} (q : b ≡ Built.Loop h) where
       fits : h .count ≤ count
@@ -169,12 +169,12 @@ module _ {s : List ℕ} {c : Notes} {ps ns : List Float} {cs : List ℕ} (number
       unfolding areaMade
       area-looped v =
           rw (v, ← e, q)
-          (ap (λ (x : Notes). left (Report.Line (Line.Area number h (triangleCount (areaAt (c .used) number h) ps′ cs′))) x ps′ ns′ cs′)
+          (ap (λ (x : Notes). outcomeWith (Report.Line (Line.Area number h (triangleCount (areaAt (c .used) number h) ps′ cs′))) x ps′ ns′ cs′)
           (added-notes (record { answer = B.loop h; positions = ps′; normals = ns′; classes = cs′ })))
 
 -- ---- an area as it was judged
 module _ {s : List ℕ} {c : Notes} {ps ns : List Float} {cs : List ℕ} (number count : ℕ) (r : Ready s c (8 + 24 * count) ps ns cs) {j : Judged} (e : j ≡ judgeArea (areasOf c) (c .given) number count) where
-  pub area-bad : {f : Fault} → j ≡ Bad f → left (Report.Bad f) c ps ns cs ≡ areaOutcome s c number count ps ns cs
+  pub area-bad : {f : Fault} → j ≡ Bad f → outcomeWith (Report.Bad f) c ps ns cs ≡ areaOutcome s c number count ps ns cs
   unfolding areaStep
   area-bad q = rw (← e, q)
 

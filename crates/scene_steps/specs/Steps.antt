@@ -146,8 +146,8 @@ pub record StepOutcome : Type 0 where
   pub normals : List Float
   pub classes : List ℕ
 
-abbrev pub left : Report → Notes → List Float → List Float → List ℕ → StepOutcome
-left report next ps ns cs = record { stepped = record { report = report; next = next }; positions = ps; normals = ns; classes = cs }
+abbrev pub outcomeWith : Report → Notes → List Float → List Float → List ℕ → StepOutcome
+outcomeWith report next ps ns cs = record { stepped = record { report = report; next = next }; positions = ps; normals = ns; classes = cs }
 
 -- the notes of a scene: its areas stand first in the table, and behind them what stood there before
 abbrev pub notesOf : List Area → Scene → Notes
@@ -163,11 +163,12 @@ notesOf table w = record {
 -- SCOPE 27: on an end, a fault and a refusal the lent store is as it was, and so are the notes but for those of a refusal, which are `at-refusal`;
 -- after a line all are those of the scene after it
 abbrev pub outcomeOf : Step → Notes → Notes → List Float → List Float → List ℕ → StepOutcome
-outcomeOf ended c at-refusal ps ns cs = left Report.End c ps ns cs
-outcomeOf (faulty f) c at-refusal ps ns cs = left (Report.Bad f) c ps ns cs
-outcomeOf (refused k) c at-refusal ps ns cs = left (Report.Refused k) at-refusal ps ns cs
-outcomeOf (wrote line next) c at-refusal ps ns cs = left (Report.Line line) (notesOf (c .areas) next) (next .positions) (next .normals) (next .classes)
+outcomeOf ended c at-refusal ps ns cs = outcomeWith Report.End c ps ns cs
+outcomeOf (faulty f) c at-refusal ps ns cs = outcomeWith (Report.Bad f) c ps ns cs
+outcomeOf (refused k) c at-refusal ps ns cs = outcomeWith (Report.Refused k) at-refusal ps ns cs
+outcomeOf (wrote line next) c at-refusal ps ns cs = outcomeWith (Report.Line line) (notesOf (c .areas) next) (next .positions) (next .normals) (next .classes)
 
+-- of each kind. An area that is refused is not noted; a place or a pair that is refused counts as read. No record comes after a refusal to read these notes
 abbrev pub areaMadeOutcome : List ℕ → Notes → ℕ → ℕ → List Float → List Float → List ℕ → StepOutcome
 areaMadeOutcome s c number count ps ns cs = outcomeOf (areaMade s (view c ps ns cs) number count) c c ps ns cs
 
@@ -180,7 +181,7 @@ placeOutcome s c number ps ns cs = outcomeOf (placeStep s (view c ps ns cs) numb
 abbrev pub pairOutcome : Notes → ℕ → ℕ → List Float → List Float → List ℕ → StepOutcome
 pairOutcome c number other ps ns cs = outcomeOf (pairStep (view c ps ns cs) number other) c (passedNotes c 10) ps ns cs
 
--- an area that is refused is not noted; a place or a pair that is refused counts as read. No record comes after a refusal that would read these notes
+-- the notes at a refusal, by the record that was read
 abbrev pub refusedNotes : Read → Notes → Notes
 refusedNotes Read.End c = c
 refusedNotes (Read.Bad f place) c = c

@@ -78,7 +78,7 @@ fn write_units(vs: &[f64], k: usize, out: &mut [f64])
     }
 }
 
-// The candidates of k edges from `from` on. Products and roots each have a loop of their own: the processor then has many roots under way at once.
+// The candidates of k edges from `from` on; `work` is left with the products. Products and roots each have a loop of their own: the processor then has many roots under way at once.
 pub fn write_candidates(
     normal: Vec3,
     normals: &[f64],
@@ -88,7 +88,7 @@ pub fn write_candidates(
     out: &mut [f64],
 )
     requires { ⌜ (from + k ≤ 512) × (3 * (from + k) ≤ length (now normals)) × (length (now work) ≡ 3 * k) × (length (now out) ≡ 3 * k) ⌝ }
-    ensures { λ _. ⌜ now (out .exit) ≡ B.candidates normal (now (normals .entry)) from k ⌝ }
+    ensures { λ _. ⌜ (now (work .exit) ≡ B.products normal (now (normals .entry)) from k) × (now (out .exit) ≡ B.candidates normal (now (normals .entry)) from k) ⌝ }
 {
     write_products(normal, normals, from, k, work);
     write_units(work, k, out);

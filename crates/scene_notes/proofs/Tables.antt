@@ -15,7 +15,7 @@ use Rattle.scene_store.specs.Store.{nobody}
 use Rattle.scene_records.specs.declared.Fault.the-variants.{NoNumber, Repeated, ManyAreas, ManyPositions}
 use Rattle.scene_notes.specs.declared.Notes.{Notes}
 use Rattle.scene_notes.specs.declared.Judged.the-variants.{Fine, Bad}
-use Rattle.scene_notes.specs.Noted.{indexOf, Kept, areasOf, passedNotes, Addable, addedNotes, judgeArea}
+use Rattle.scene_notes.specs.Noted.{indexOf, Kept, areasOf, noAreas, freshNotes, passedNotes, Addable, addedNotes, judgeArea}
 
 -- within a list it is all one what stands past its end
 any-default : {A : Type 0} (l : List A) (i : ℕ) (d d′ : A) → i < length l → getD l i d ≡ getD l i d′
@@ -40,6 +40,11 @@ looks areas met number h = rw (length-take-le met areas h) look
 
 pub met-count : (c : Notes) → Kept c → length (areasOf c) ≡ c .met
 met-count c k = length-take-le (c .met) (c .areas) (omega (arith, k .few, k .size))
+
+-- the table before the first record
+pub kept-fresh : Kept freshNotes
+unfolding noAreas
+kept-fresh = record { few = omega arith; size = refl }
 
 -- the table after a record
 pub kept-passed : {c n : Notes} (size : ℕ) → Kept c → n ≡ passedNotes c size → Kept n

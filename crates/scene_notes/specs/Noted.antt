@@ -3,7 +3,7 @@ use Prim.Native.Nat.{ℕ, _+_, _*_, _≤_, _<_}
 use mathlib.Core.Path.{_≡_}
 use mathlib.Core.Bool.{cond}
 use mathlib.Core.List.{List}
-use lib.ListN.{length, take, getD, set}
+use lib.ListN.{length, take, getD, set, replicate}
 use lib.Dec.{ltb, leb, eqb}
 use lib.Ieee.{Float}
 use Rattle.laws.specs.Loop.{firstAt}
@@ -51,14 +51,12 @@ view c ps ns cs = record {
   classes = cs;
 }
 
--- nothing is noted yet
-pub record Fresh (c : Notes) : Type 0 where
-  pub at : c .at ≡ 0
-  pub records : c .records ≡ 0
-  pub met : c .met ≡ 0
-  pub given : c .given ≡ 0
-  pub used : c .used ≡ 0
-  pub size : length (c .areas) ≡ 16
+-- nothing is noted yet: no area stands in the table
+unfoldable pub noAreas : List Area
+noAreas = replicate 16 nobody
+
+abbrev pub freshNotes : Notes
+freshNotes = record { at = 0; records = 0; met = 0; given = 0; used = 0; areas = noAreas }
 
 abbrev pub passedNotes : Notes → ℕ → Notes
 passedNotes c size = record { at = c .at + size; records = c .records + 1; met = c .met; given = c .given; used = c .used; areas = c .areas }

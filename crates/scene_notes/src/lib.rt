@@ -49,7 +49,7 @@ pub fn area_of(c: Notes, i: usize) -> Area
 
 // A scene's notes before its first record.
 pub fn fresh() -> Notes
-    ensures { λ r. ⌜ N.Fresh r ⌝ }
+    ensures { λ r. ⌜ r ≡ N.freshNotes ⌝ }
 {
     let nobody = Area {
         number: 0,

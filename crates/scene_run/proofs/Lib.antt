@@ -1,3 +1,6 @@
 pub mod Runs
 pub mod Unique
 pub mod Cuts
+pub mod Refusals
+pub mod Numbers
+pub mod Texts

@@ -18,9 +18,10 @@ use Rattle.scene_notes.specs.declared.Notes.{Notes}
 use Rattle.scene_steps.specs.declared.Report.{Report}
 use Rattle.scene_steps.specs.declared.Report.the-variants as Report
 use Rattle.scene_steps.specs.declared.Stepped.{Stepped}
-use Rattle.scene_notes.specs.Noted.{Scene, Kept, areasOf, view, Fresh}
+use Rattle.scene_notes.specs.Noted.{Scene, Kept, areasOf, view, freshNotes}
 use Rattle.scene_steps.specs.Steps.{Step, wrote, step, reportStep, toldStep, Ready}
 use Rattle.scene_run.specs.Run.{textBy, linesFrom, starting, linesOf, lineOf, goesOn, Running, blankFloats, blankCodes, sceneText}
+use Rattle.scene_notes.proofs.Tables.{kept-fresh}
 use Rattle.scene_steps.proofs.Goods.{Onward, onward}
 
 -- ---- the text of a report
@@ -58,15 +59,16 @@ pub record Going (s out₀ : List ℕ) (ps₀ ns₀ : List Float) (cs₀ : List 
   pub same-classes : length cs ≡ length cs₀
   pub goes : (o : List ℕ) (r : ℕ) → Wrote out written (linesFrom s (length s + 1 - c .records) (view c ps ns cs)) o r → Wrote out₀ 0 (linesOf s ps₀ ns₀ cs₀) o r
 
-first : (c : Notes) (ps ns : List Float) (cs : List ℕ) → Fresh c → view c ps ns cs ≡ starting ps ns cs
-first c ps ns cs f = rw (f .at, f .records, f .met, f .given, f .used)
+first : {c : Notes} (ps ns : List Float) (cs : List ℕ) → c ≡ freshNotes → view c ps ns cs ≡ starting ps ns cs
+first ps ns cs f = rw f
 
-pub begin : (s out : List ℕ) (ps ns : List Float) (cs : List ℕ) {c : Notes} → Running s (length ps) (length ns) (length cs) (length out) → Fresh c → Going s out ps ns cs c 0 ps ns cs out
+pub begin : (s out : List ℕ) (ps ns : List Float) (cs : List ℕ) {c : Notes} → Running s (length ps) (length ns) (length cs) (length out) → c ≡ freshNotes → Going s out ps ns cs c 0 ps ns cs out
 begin s out ps ns cs {c} q f =
-    let e : length s + 1 - c .records ≡ length s + 1 = omega (arith, f .records) in
+    let none : c .records ≡ 0 = ap (λ (n : Notes). n .records) f in
+    let e : length s + 1 - c .records ≡ length s + 1 = omega arith in
     record {
       ready = record {
-        good = rw (first c ps ns cs f) record {
+        good = rw (first ps ns cs f) record {
           small = q .small;
           within = omega arith;
           counted = omega arith;
@@ -75,9 +77,9 @@ begin s out ps ns cs {c} q f =
           given-most = omega arith;
           inside = λ i h. absurd (not-suc-le-zero h);
         };
-        kept = record { few = omega (arith, f .met); size = f .size };
+        kept = rw f kept-fresh;
         sized = q .sized;
-        whole = omega (arith, f .at);
+        whole = let start : c .at ≡ 0 = ap (λ (n : Notes). n .at) f in omega arith;
       };
       room = q .room;
       bound = omega arith;
@@ -85,7 +87,7 @@ begin s out ps ns cs {c} q f =
       same-positions = refl;
       same-normals = refl;
       same-classes = refl;
-      goes = λ o r h. rw (e, first c ps ns cs f) at h;
+      goes = λ o r h. rw (e, first ps ns cs f) at h;
     }
 
 module _ {s out₀ : List ℕ} {ps₀ ns₀ : List Float} {cs₀ : List ℕ} {c : Notes} {written : ℕ} {ps ns : List Float} {cs out : List ℕ} (g : Going s out₀ ps₀ ns₀ cs₀ c written ps ns cs out)

@@ -1,3 +1,4 @@
 pub mod Steps
 pub mod Goods
 pub mod Taken
+pub mod Outcomes

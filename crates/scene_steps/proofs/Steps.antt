@@ -1,11 +1,13 @@
 -- A record's step, as the program takes it. Assumes nothing.
-use Prim.Native.Nat.{ℕ, _+_, _*_, _≤_, _<_}
+use Prim.Native.Nat.{ℕ, zero, suc, _+_, _*_, _≤_, _<_}
 use mathlib.Core.Path.{_≡_, refl, sym, ap, _∙_}
-use mathlib.Core.List.{List}
+use mathlib.Core.Bool.{Bool, true, false}
+use mathlib.Core.List.{List, [], _∷_, _++_, append-assoc}
 use native.Mathlib.Numerals.{add-one}
 use native.Mathlib.Omega.{arith}
-use lib.ListN.{length, getD}
-use lib.Seq.{take-suc-set}
+use lib.ListN.{length, take, drop, getD, length-append, take-append-drop}
+use lib.Seq.{set-split}
+use lib.Dec.{ltb}
 use lib.Ieee.{Float}
 use borrow.Author.Tests.{lt-ltb, le-ltb}
 use Rattle.vec3.specs.declared.Vec3.{Vec3}
@@ -29,8 +31,9 @@ use Rattle.scene_steps.specs.declared.Report.the-variants as Report
 use Rattle.scene_steps.specs.declared.Stepped.{Stepped}
 use Rattle.scene_notes.specs.Noted.{Scene, indexOf, areasOf, view, passedNotes, Addable, areaAt, addedNotes, judgeArea}
 use Rattle.scene_notes.proofs.Tables.{met-count, Allowed, allowed}
-use Rattle.scene_store.specs.Store.{nobody, builtAt, triangleCount, placeIn, pairIn, Lies, Room}
-use Rattle.scene_steps.specs.Steps.{Step, faulty, refused, areaMade, areaStep, placeTold, placeStep, pairTold, pairStep, Good, reportStep, toldStep, placeReport, pairReport, Sized, Ready}
+use Rattle.scene_store.specs.Store.{nobody, after, builtAt, triangleCount, placeIn, pairIn, Lies, Room}
+use Rattle.scene_steps.specs.Steps.{passedBy, withArea, areaMade, areaStep, placeTold, placeStep, pairTold, pairStep, Good, placeReport, pairReport, Sized, Ready}
+use Rattle.scene_steps.specs.Steps.{StepOutcome, outcomeWith, notesOf, outcomeOf, areaMadeOutcome, areaOutcome, placeOutcome, pairOutcome}
 use Rattle.scene_store.proofs.Counts.{built-count}
 
 -- an area that was met lies in the store
@@ -53,40 +56,61 @@ module _ {s : List ℕ} {c : Notes} {size : ℕ} {ps ns : List Float} {cs : List
   pub passable : (c .at + size ≤ 65536) × (c .records ≤ 65536)
   passable = (omega (arith, r .whole, r .good .small), omega (arith, r .good .counted, r .good .within, r .good .small))
 
-  -- ---- a place
-  place-same : (t : Told) (number : ℕ) → reportStep (placeReport t number) (view (passedNotes c 32) ps ns cs) ≡ placeTold here number t
-  place-same (Ask.refused k) number = refl
-  place-same (Ask.answer n) number = refl
+  -- the notes after a record that brought no area are those of the scene after it
+  passed-notes : (n : ℕ) → passedNotes c n ≡ notesOf (c .areas) (passedBy n here)
+  passed-notes n = rw (met-count c (r .kept), take-append-drop (c .met) (c .areas))
 
-  pub place-missing : (number : ℕ) {i : ℕ} → i ≡ indexOf (areasOf c) number → c .met ≤ i → faulty NotMet ≡ placeStep s here number
+  -- ---- a place
+  place-same : (t : Told) (number : ℕ) → outcomeWith (placeReport t number) (passedNotes c 32) ps ns cs ≡ outcomeOf (placeTold here number t) c (passedNotes c 32) ps ns cs
+  place-same (Ask.refused k) number = refl
+  place-same (Ask.answer n) number = ap (λ (x : Notes). outcomeWith (Report.Line (Line.Place number n)) x ps ns cs) (passed-notes 32)
+
+  pub place-missing : (number : ℕ) {i : ℕ} → i ≡ indexOf (areasOf c) number → c .met ≤ i → outcomeWith (Report.Bad NotMet) c ps ns cs ≡ placeOutcome s c number ps ns cs
   unfolding placeStep
   place-missing number e h = rw (← e, met-count c (r .kept), le-ltb _ _ h)
 
   pub place-met : (number : ℕ) {i : ℕ} {a : Area} {p : Vec3} {t : Told} {o : Report} {n : Notes} → i ≡ indexOf (areasOf c) number → i < c .met
       → a ≡ getD (areasOf c) i nobody → p ≡ vecOf s (c .at + 8) → t ≡ placeIn a ps ns cs p → o ≡ placeReport t number → n ≡ passedNotes c 32
-      → reportStep o (view n ps ns cs) ≡ placeStep s here number
+      → outcomeWith o n ps ns cs ≡ placeOutcome s c number ps ns cs
   unfolding placeStep
   place-met number {t = t} e h ea ep et eo en = rw (en, eo, ← e, met-count c (r .kept), lt-ltb _ _ h, ← ea, ← ep, ← et) (place-same t number)
 
   -- ---- a pair
-  pair-same : (t : Told) (number other : ℕ) → reportStep (pairReport t number other) (view (passedNotes c 10) ps ns cs) ≡ pairTold here number other t
+  pair-same : (t : Told) (number other : ℕ) → outcomeWith (pairReport t number other) (passedNotes c 10) ps ns cs ≡ outcomeOf (pairTold here number other t) c (passedNotes c 10) ps ns cs
   pair-same (Ask.refused k) number other = refl
-  pair-same (Ask.answer n) number other = refl
+  pair-same (Ask.answer n) number other = ap (λ (x : Notes). outcomeWith (Report.Line (Line.Pair number other n)) x ps ns cs) (passed-notes 10)
 
-  pub pair-missing : (number other : ℕ) {i : ℕ} → i ≡ indexOf (areasOf c) number → c .met ≤ i → faulty NotMet ≡ pairStep here number other
+  pub pair-missing : (number other : ℕ) {i : ℕ} → i ≡ indexOf (areasOf c) number → c .met ≤ i → outcomeWith (Report.Bad NotMet) c ps ns cs ≡ pairOutcome c number other ps ns cs
   unfolding pairStep
   pair-missing number other e h = rw (← e, met-count c (r .kept), le-ltb _ _ h)
 
-  pub pair-half : (number other : ℕ) {i j : ℕ} → i ≡ indexOf (areasOf c) number → i < c .met → j ≡ indexOf (areasOf c) other → c .met ≤ j → faulty NotMet ≡ pairStep here number other
+  pub pair-half : (number other : ℕ) {i j : ℕ} → i ≡ indexOf (areasOf c) number → i < c .met → j ≡ indexOf (areasOf c) other → c .met ≤ j
+      → outcomeWith (Report.Bad NotMet) c ps ns cs ≡ pairOutcome c number other ps ns cs
   unfolding pairStep
   pair-half number other e h f g = rw (← e, ← f, met-count c (r .kept), lt-ltb _ _ h, le-ltb _ _ g)
 
   pub pair-met : (number other : ℕ) {i j : ℕ} {a b : Area} {t : Told} {o : Report} {n : Notes} → i ≡ indexOf (areasOf c) number → i < c .met → j ≡ indexOf (areasOf c) other → j < c .met
       → a ≡ getD (areasOf c) i nobody → b ≡ getD (areasOf c) j nobody → t ≡ pairIn a b ps ns cs → o ≡ pairReport t number other → n ≡ passedNotes c 10
-      → reportStep o (view n ps ns cs) ≡ pairStep here number other
+      → outcomeWith o n ps ns cs ≡ pairOutcome c number other ps ns cs
   unfolding pairStep
   pair-met number other {t = t} e h f g ea eb et eo en =
       rw (en, eo, ← e, ← f, met-count c (r .kept), lt-ltb _ _ h, lt-ltb _ _ g, ← ea, ← eb, ← et) (pair-same t number other)
+
+-- ---- a build that is refused leaves the store as it was
+module _ (l qs ms : List Float) (ds : List ℕ) {k : ℕ} where
+  kept-if : (b : Bool) (n : ℕ) → B.refused k ≡ B.outcomeIf b l n qs ms ds .answer → B.outcomeIf b l n qs ms ds ≡ B.kept (B.refused k) qs ms ds
+  kept-if true n e = absurd (let z : _≡_ {A = ℕ} 0 1 = cc in omega arith)
+  kept-if false n e = absurd (let z : _≡_ {A = ℕ} 0 1 = cc in omega arith)
+
+  kept-by : (i : ℕ) → B.refused k ≡ B.outcomeBy i l qs ms ds .answer → B.outcomeBy i l qs ms ds ≡ B.kept (B.refused k) qs ms ds
+  kept-by zero e = kept-if (ltb (B.openedCount l) 3) (B.openedCount l) e
+  kept-by (suc i) e = ap (λ (t : B.Told). B.kept t qs ms ds) (sym e)
+
+store-kept : (l : List Float) (used : ℕ) (ps ns : List Float) (cs : List ℕ) {k : ℕ} → B.refused k ≡ builtAt l used ps ns cs .answer → builtAt l used ps ns cs ≡ B.kept (B.refused k) ps ns cs
+unfolding builtAt B.buildOutcome
+store-kept l used ps ns cs {k} e =
+    let q = kept-by l (drop (3 * used) ps) (drop (3 * used) ns) (drop used cs) (B.refusal l (drop (3 * used) ps) (drop (3 * used) ns) (drop used cs)) e in
+    ap (after used ps ns cs) q ∙ rw (take-append-drop (3 * used) ps, take-append-drop (3 * used) ns, take-append-drop used cs)
 
 -- ---- an area that may come in
 module _ {s : List ℕ} {c : Notes} {ps ns : List Float} {cs : List ℕ} (number count : ℕ) (r : Ready s c (8 + 24 * count) ps ns cs) (f : Fine ≡ judgeArea (areasOf c) (c .given) number count) where
@@ -109,9 +133,12 @@ module _ {s : List ℕ} {c : Notes} {ps ns : List Float} {cs : List ℕ} (number
 
   -- what the build answered and left
   module _ {b : Built} {ps′ ns′ : List Float} {cs′ : List ℕ} (e : record { answer = B.told b; positions = ps′; normals = ns′; classes = cs′ } ≡ builtAt (floatsAt s (c .at + 8) count) (c .used) ps ns cs) where
-    pub area-refused : {k : ℕ} → b ≡ Built.Refused k → refused k ≡ areaMade s (view c ps ns cs) number count
+    pub area-refused : {k : ℕ} → b ≡ Built.Refused k → outcomeWith (Report.Refused k) c ps′ ns′ cs′ ≡ areaMadeOutcome s c number count ps ns cs
     unfolding areaMade
-    area-refused q = rw (← e, q)
+    area-refused {k} q =
+        let l = floatsAt s (c .at + 8) count in
+        let z = store-kept l (c .used) ps ns cs (sym (ap B.told q) ∙ ap (λ (o : B.Outcome). o .answer) e) in
+        ap (λ (o : B.Outcome). outcomeWith (Report.Refused k) c (o .positions) (o .normals) (o .classes)) (e ∙ z) ∙ rw z
 
     module _ {h : Header} (q : b ≡ Built.Loop h) where
       fits : h .count ≤ count
@@ -129,17 +156,28 @@ module _ {s : List ℕ} {c : Notes} {ps ns : List Float} {cs : List ℕ} (number
       pub new-lies : length ps′ ≡ length ps → length ns′ ≡ length ns → length cs′ ≡ length cs → Lies (areaAt (c .used) number h) ps′ ns′ cs′
       new-lies p n k = record { ends = addable .corners; positions-size = p ∙ r .sized .of-positions; normals-size = n ∙ r .sized .of-normals; classes-size = k ∙ r .sized .of-classes }
 
+      -- the notes with one area more are those of the scene with it
+      added-notes : (o : B.Outcome) → addedNotes c (areaAt (c .used) number h) count ≡ notesOf (c .areas) (withArea (view c ps ns cs) (areaAt (c .used) number h) count o)
+      added-notes o =
+          let a = areaAt (c .used) number h in
+          let g : c .met < length (c .areas) = omega (arith, may .room, r .kept .size) in
+          let n : length (areasOf c ++ (a ∷ [])) ≡ c .met + 1 = length-append (areasOf c) (a ∷ []) ∙ ap (λ (k : ℕ). k + 1) (met-count c (r .kept)) in
+          rw (n, add-one (c .met), set-split (c .areas) (c .met) a g, append-assoc)
+
       pub area-looped : {n : Stepped} → n ≡ record { report = Report.Line (Line.Area number h (triangleCount (areaAt (c .used) number h) ps′ cs′)); next = addedNotes c (areaAt (c .used) number h) count }
-          → toldStep n ps′ ns′ cs′ ≡ areaMade s (view c ps ns cs) number count
+          → record { stepped = n; positions = ps′; normals = ns′; classes = cs′ } ≡ areaMadeOutcome s c number count ps ns cs
       unfolding areaMade
       area-looped v =
-          let g : c .met < length (c .areas) = omega (arith, may .room, r .kept .size) in
-          rw (v, ← e, q, add-one (c .met), take-suc-set (c .areas) (c .met) (areaAt (c .used) number h) g)
+          rw (v, ← e, q)
+          (ap (λ (x : Notes). outcomeWith (Report.Line (Line.Area number h (triangleCount (areaAt (c .used) number h) ps′ cs′))) x ps′ ns′ cs′)
+          (added-notes (record { answer = B.loop h; positions = ps′; normals = ns′; classes = cs′ })))
 
-pub area-bad : (s : List ℕ) (w : Scene) (number count : ℕ) {j : Judged} {f : Fault} → j ≡ judgeArea (w .areas) (w .given) number count → j ≡ Bad f → faulty f ≡ areaStep s w number count
-unfolding areaStep
-area-bad s w number count e q = rw (← e, q)
+-- ---- an area as it was judged
+module _ {s : List ℕ} {c : Notes} {ps ns : List Float} {cs : List ℕ} (number count : ℕ) (r : Ready s c (8 + 24 * count) ps ns cs) {j : Judged} (e : j ≡ judgeArea (areasOf c) (c .given) number count) where
+  pub area-bad : {f : Fault} → j ≡ Bad f → outcomeWith (Report.Bad f) c ps ns cs ≡ areaOutcome s c number count ps ns cs
+  unfolding areaStep
+  area-bad q = rw (← e, q)
 
-pub area-fine : (s : List ℕ) (w : Scene) (number count : ℕ) {j : Judged} {x : Step} → j ≡ judgeArea (w .areas) (w .given) number count → j ≡ Fine → x ≡ areaMade s w number count → x ≡ areaStep s w number count
-unfolding areaStep
-area-fine s w number count e q h = rw (← e, q) h
+  pub area-fine : {o : StepOutcome} → j ≡ Fine → o ≡ areaMadeOutcome s c number count ps ns cs → o ≡ areaOutcome s c number count ps ns cs
+  unfolding areaStep
+  area-fine q h = rw (← e, q) h

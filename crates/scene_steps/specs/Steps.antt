@@ -3,7 +3,7 @@ use Prim.Native.Nat.{ℕ, _+_, _*_, _≤_, _<_}
 use mathlib.Core.Path.{_≡_}
 use mathlib.Core.Bool.{Bool, cond}
 use mathlib.Core.List.{List, [], _∷_, _++_}
-use lib.ListN.{length, getD}
+use lib.ListN.{length, drop, getD}
 use lib.Dec.{ltb}
 use lib.Ieee.{Float}
 use Rattle.wire.specs.Wire.{vecOf}
@@ -25,7 +25,7 @@ use Rattle.scene_notes.specs.declared.Judged.the-variants.{Fine, Bad}
 use Rattle.scene_steps.specs.declared.Stepped.{Stepped}
 use Rattle.scene_steps.specs.declared.Report.{Report}
 use Rattle.scene_steps.specs.declared.Report.the-variants as Report
-use Rattle.scene_notes.specs.Noted.{Scene, indexOf, Kept, view, areaAt, judgeArea}
+use Rattle.scene_notes.specs.Noted.{Scene, indexOf, Kept, view, passedNotes, areaAt, judgeArea}
 use Rattle.scene_store.specs.Store.{nobody, builtAt, triangleCount, placeIn, pairIn}
 
 -- what a record comes to: there is none, its fault, a call's own refusal, or its line and the scene after it
@@ -138,6 +138,59 @@ reportStep (Report.Line line) w = wrote line w
 
 abbrev pub toldStep : Stepped → List Float → List Float → List ℕ → Step
 toldStep r ps ns cs = reportStep (r .report) (view (r .next) ps ns cs)
+
+-- ---- what the program leaves of a record: its report, its notes, and the store
+pub record StepOutcome : Type 0 where
+  pub stepped : Stepped
+  pub positions : List Float
+  pub normals : List Float
+  pub classes : List ℕ
+
+abbrev pub outcomeWith : Report → Notes → List Float → List Float → List ℕ → StepOutcome
+outcomeWith report next ps ns cs = record { stepped = record { report = report; next = next }; positions = ps; normals = ns; classes = cs }
+
+-- the notes of a scene: its areas stand first in the table, and behind them what stood there before
+abbrev pub notesOf : List Area → Scene → Notes
+notesOf table w = record {
+  at = w .at;
+  records = w .records;
+  met = length (w .areas);
+  given = w .given;
+  used = w .used;
+  areas = w .areas ++ drop (length (w .areas)) table;
+}
+
+-- SCOPE 27: on an end, a fault and a refusal the lent store is as it was, and so are the notes but for those of a refusal, which are `at-refusal`;
+-- after a line all are those of the scene after it
+abbrev pub outcomeOf : Step → Notes → Notes → List Float → List Float → List ℕ → StepOutcome
+outcomeOf ended c at-refusal ps ns cs = outcomeWith Report.End c ps ns cs
+outcomeOf (faulty f) c at-refusal ps ns cs = outcomeWith (Report.Bad f) c ps ns cs
+outcomeOf (refused k) c at-refusal ps ns cs = outcomeWith (Report.Refused k) at-refusal ps ns cs
+outcomeOf (wrote line next) c at-refusal ps ns cs = outcomeWith (Report.Line line) (notesOf (c .areas) next) (next .positions) (next .normals) (next .classes)
+
+-- of each kind. An area that is refused is not noted; a place or a pair that is refused counts as read. No record comes after a refusal to read these notes
+abbrev pub areaMadeOutcome : List ℕ → Notes → ℕ → ℕ → List Float → List Float → List ℕ → StepOutcome
+areaMadeOutcome s c number count ps ns cs = outcomeOf (areaMade s (view c ps ns cs) number count) c c ps ns cs
+
+abbrev pub areaOutcome : List ℕ → Notes → ℕ → ℕ → List Float → List Float → List ℕ → StepOutcome
+areaOutcome s c number count ps ns cs = outcomeOf (areaStep s (view c ps ns cs) number count) c c ps ns cs
+
+abbrev pub placeOutcome : List ℕ → Notes → ℕ → List Float → List Float → List ℕ → StepOutcome
+placeOutcome s c number ps ns cs = outcomeOf (placeStep s (view c ps ns cs) number) c (passedNotes c 32) ps ns cs
+
+abbrev pub pairOutcome : Notes → ℕ → ℕ → List Float → List Float → List ℕ → StepOutcome
+pairOutcome c number other ps ns cs = outcomeOf (pairStep (view c ps ns cs) number other) c (passedNotes c 10) ps ns cs
+
+-- the notes at a refusal, by the record that was read
+abbrev pub refusedNotes : Read → Notes → Notes
+refusedNotes Read.End c = c
+refusedNotes (Read.Bad f place) c = c
+refusedNotes (Read.Area number count) c = c
+refusedNotes (Read.Place number) c = passedNotes c 32
+refusedNotes (Read.Pair number other) c = passedNotes c 10
+
+unfoldable pub stepOutcome : List ℕ → Notes → List Float → List Float → List ℕ → StepOutcome
+stepOutcome s c ps ns cs = outcomeOf (step s (view c ps ns cs)) c (refusedNotes (readAt s (c .at)) c) ps ns cs
 
 -- an answer told, as the program's report
 abbrev pub placeReport : Told → ℕ → Report

@@ -67,8 +67,8 @@ fn area_made(
     classes: &mut [u8],
 ) -> Stepped
     requires { ⌜ S.Ready (now s) c (8 + 24 * count) (now positions) (now normals) (now classes) × (Judged.Fine ≡ N.judgeArea (N.areasOf c) (c .given) number count) ⌝ }
-    ensures { λ r. ⌜ S.toldStep r (now (positions .exit)) (now (normals .exit)) (now (classes .exit)) ≡ S.areaMade (now (s .entry)) (N.view c (now (positions .entry)) (now (normals .entry)) (now (classes .entry))) number count ⌝ }
-    ensures { λ r. ⌜ N.Kept (r .next) ⌝ }
+    ensures { λ r. ⌜ record { stepped = r; positions = now (positions .exit); normals = now (normals .exit); classes = now (classes .exit) }
+        ≡ S.areaMadeOutcome (now (s .entry)) c number count (now (positions .entry)) (now (normals .entry)) (now (classes .entry)) ⌝ }
 {
     match scene_store::build_area(s, c.at + 8, count, c.used, positions, normals, classes) {
         Built::Refused(k) => Stepped {
@@ -89,8 +89,8 @@ fn area_step(
     classes: &mut [u8],
 ) -> Stepped
     requires { ⌜ S.Ready (now s) c (8 + 24 * count) (now positions) (now normals) (now classes) ⌝ }
-    ensures { λ r. ⌜ S.toldStep r (now (positions .exit)) (now (normals .exit)) (now (classes .exit)) ≡ S.areaStep (now (s .entry)) (N.view c (now (positions .entry)) (now (normals .entry)) (now (classes .entry))) number count ⌝ }
-    ensures { λ r. ⌜ N.Kept (r .next) ⌝ }
+    ensures { λ r. ⌜ record { stepped = r; positions = now (positions .exit); normals = now (normals .exit); classes = now (classes .exit) }
+        ≡ S.areaOutcome (now (s .entry)) c number count (now (positions .entry)) (now (normals .entry)) (now (classes .entry)) ⌝ }
 {
     match scene_notes::judge_area(c, number, count) {
         Judged::Bad(f) => Stepped {
@@ -122,8 +122,8 @@ fn place_step(
     classes: &[u8],
 ) -> Stepped
     requires { ⌜ S.Ready (now s) c 32 (now positions) (now normals) (now classes) ⌝ }
-    ensures { λ r. ⌜ S.toldStep r (now (positions .entry)) (now (normals .entry)) (now (classes .entry)) ≡ S.placeStep (now (s .entry)) (N.view c (now (positions .entry)) (now (normals .entry)) (now (classes .entry))) number ⌝ }
-    ensures { λ r. ⌜ N.Kept (r .next) ⌝ }
+    ensures { λ r. ⌜ record { stepped = r; positions = now (positions .entry); normals = now (normals .entry); classes = now (classes .entry) }
+        ≡ S.placeOutcome (now (s .entry)) c number (now (positions .entry)) (now (normals .entry)) (now (classes .entry)) ⌝ }
 {
     let i = scene_notes::index_of(c, number);
     if c.met <= i {
@@ -166,8 +166,8 @@ fn pair_step(
     classes: &[u8],
 ) -> Stepped
     requires { ⌜ S.Ready (now s) c 10 (now positions) (now normals) (now classes) ⌝ }
-    ensures { λ r. ⌜ S.toldStep r (now (positions .entry)) (now (normals .entry)) (now (classes .entry)) ≡ S.pairStep (N.view c (now (positions .entry)) (now (normals .entry)) (now (classes .entry))) number other ⌝ }
-    ensures { λ r. ⌜ N.Kept (r .next) ⌝ }
+    ensures { λ r. ⌜ record { stepped = r; positions = now (positions .entry); normals = now (normals .entry); classes = now (classes .entry) }
+        ≡ S.pairOutcome c number other (now (positions .entry)) (now (normals .entry)) (now (classes .entry)) ⌝ }
 {
     let i = scene_notes::index_of(c, number);
     if c.met <= i {
@@ -192,7 +192,7 @@ fn pair_step(
     }
 }
 
-// The record at the notes' offset, by its kind.
+// The record at the notes' offset, by its kind. On an end, a fault and a refusal the lent store keeps what it held (`S.outcomeOf`).
 pub fn step(
     s: &[u8],
     c: Notes,
@@ -201,8 +201,8 @@ pub fn step(
     classes: &mut [u8],
 ) -> Stepped
     requires { ⌜ S.Ready (now s) c 0 (now positions) (now normals) (now classes) ⌝ }
-    ensures { λ r. ⌜ S.toldStep r (now (positions .exit)) (now (normals .exit)) (now (classes .exit)) ≡ S.step (now (s .entry)) (N.view c (now (positions .entry)) (now (normals .entry)) (now (classes .entry))) ⌝ }
-    ensures { λ r. ⌜ N.Kept (r .next) ⌝ }
+    ensures { λ r. ⌜ record { stepped = r; positions = now (positions .exit); normals = now (normals .exit); classes = now (classes .exit) }
+        ≡ S.stepOutcome (now (s .entry)) c (now (positions .entry)) (now (normals .entry)) (now (classes .entry)) ⌝ }
 {
     match scene_records::read_at(s, c.at) {
         Read::End => Stepped {

@@ -1,6 +1,5 @@
 -- An area that may come in is built into the rest of the store: a refusal of the build ends the step, a loop's line and its notes follow from `area_line`.
 use Rattle.scene_steps.proofs.Steps.{room, area-refused, addable, new-lies, area-looped}
-use Rattle.scene_notes.proofs.Tables.{kept-added}
 use borrow.Author.Needs.{needs}
 use Rattle.scene_steps.proofs.area_made.Statement.{statement}
 use Rattle.scene_steps.proofs.area_made.Tie as tie
@@ -23,7 +22,7 @@ returns-refused : tie.Need-returns
 returns-refused c =
     let at-build = c .before .before .before .before .before .before .before .before .before in
     let given = at-build .before .before .before .before .before .before .before .before .before .pre in
-    (area-refused _ _ (given .0) (given .1) (at-build .build-area .ensures) (c .before .k .given .1), given .0 .kept)
+    area-refused _ _ (given .0) (given .1) (at-build .build-area .ensures) (c .before .k .given .1)
 
 returns-looped : tie.Need-returns-2
 returns-looped c =
@@ -31,10 +30,8 @@ returns-looped c =
     let at-build = looped .before .before .before .before .before .before .before .before in
     let built = at-build .build-area .ensures in
     let header = looped .h .given .1 in
-    let given = at-build .before .before .before .before .before .before .before .before .before .pre in (
-      area-looped _ _ (given .0) (given .1) built header (c .area-line .ensures),
-      rw (c .area-line .ensures) (kept-added (given .0 .kept) (addable _ _ (given .0) (given .1) built header)),
-    )
+    let given = at-build .before .before .before .before .before .before .before .before .before .pre in
+    area-looped _ _ (given .0) (given .1) built header (c .area-line .ensures)
 
 pub area-made-spec : {M : Type 1} → statement M
 area-made-spec =

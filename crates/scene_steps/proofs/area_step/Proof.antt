@@ -20,13 +20,13 @@ area-made-requires c κs =
 returns-bad : tie.Need-returns
 returns-bad c =
     let judged = c .before .before .before in
-    (area-bad _ _ _ _ (judged .judge-area .ensures) (c .before .f .given .1), judged .before .before .before .before .before .pre .kept)
+    area-bad _ _ (judged .before .before .before .before .before .pre) (judged .judge-area .ensures) (c .before .f .given .1)
 
 returns-fine : tie.Need-returns-2
-returns-fine c = (
-  area-fine _ _ _ _ (fine (made c .before) .before .before .judge-area .ensures) (fine (made c .before) .enum-told .given .1) (made c .area-made .ensures .0),
-  made c .area-made .ensures .1,
-)
+returns-fine c =
+    let found = fine (made c .before) in
+    let judged = found .before .before in
+    area-fine _ _ (judged .before .before .before .before .before .pre) (judged .judge-area .ensures) (found .enum-told .given .1) (made c .area-made .ensures)
 
 pub area-step-spec : {M : Type 1} → statement M
 area-step-spec =

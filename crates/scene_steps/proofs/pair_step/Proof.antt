@@ -1,6 +1,5 @@
 -- Both numbers are looked up among the areas met: where one is missing that is the fault, else the pair's relation is told and the record passed.
 use Rattle.scene_steps.proofs.Steps.{area-lies, passable, pair-missing, pair-half, pair-met}
-use Rattle.scene_notes.proofs.Tables.{kept-passed}
 use borrow.Author.Needs.{needs}
 use Rattle.scene_steps.proofs.pair_step.Statement.{statement}
 use Rattle.scene_steps.proofs.pair_step.Tie as tie
@@ -9,7 +8,7 @@ returns-first-missing : tie.Need-returns
 returns-first-missing c =
     let looked = c .before .before in
     let ready = looked .before .before .before .before .before .pre in
-    (pair-missing ready _ _ (looked .index-of .ensures .0) (c .if1 .taken), ready .kept)
+    pair-missing ready _ _ (looked .index-of .ensures .0) (c .if1 .taken)
 
 returns-second-missing : tie.Need-returns-2
 returns-second-missing c =
@@ -17,7 +16,7 @@ returns-second-missing c =
     let met = second .before in
     let first = met .before .before in
     let ready = first .before .before .before .before .before .pre in
-    (pair-half ready _ _ (first .index-of .ensures .0) (met .if1 .left) (second .index-of2 .ensures .0) (c .if2 .taken), ready .kept)
+    pair-half ready _ _ (first .index-of .ensures .0) (met .if1 .left) (second .index-of2 .ensures .0) (c .if2 .taken)
 
 pair-in-requires : tie.Need-pair-in-requires
 pair-in-requires c κs =
@@ -35,11 +34,9 @@ returns-met c =
     let second = second-met .before .before in
     let first-met = second .before in
     let first = first-met .before .before in
-    let ready = first .before .before .before .before .before .pre in (
-      pair-met ready _ _ (first .index-of .ensures .0) (first-met .if1 .left) (second .index-of2 .ensures .0) (second-met .if2 .left)
-          (area .area-of .ensures) (other .area-of2 .ensures) (asked .pair-in .ensures) (c .before .pair-told .ensures) (c .passed .ensures),
-      kept-passed _ (ready .kept) (c .passed .ensures),
-    )
+    let ready = first .before .before .before .before .before .pre in
+    pair-met ready _ _ (first .index-of .ensures .0) (first-met .if1 .left) (second .index-of2 .ensures .0) (second-met .if2 .left)
+    (area .area-of .ensures) (other .area-of2 .ensures) (asked .pair-in .ensures) (c .before .pair-told .ensures) (c .passed .ensures)
 
 pub pair-step-spec : {M : Type 1} → statement M
 pair-step-spec =

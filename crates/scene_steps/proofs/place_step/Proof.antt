@@ -1,6 +1,5 @@
 -- The number is looked up among the areas met: where it is missing that is the fault, else the point's answer is told and the record passed.
 use Rattle.scene_steps.proofs.Steps.{area-lies, passable, place-missing, place-met}
-use Rattle.scene_notes.proofs.Tables.{kept-passed}
 use borrow.Author.Needs.{needs}
 use Rattle.scene_steps.proofs.place_step.Statement.{statement}
 use Rattle.scene_steps.proofs.place_step.Tie as tie
@@ -9,7 +8,7 @@ returns-missing : tie.Need-returns
 returns-missing c =
     let looked = c .before .before in
     let ready = looked .before .before .before .before .before .pre in
-    (place-missing ready _ (looked .index-of .ensures .0) (c .if1 .taken), ready .kept)
+    place-missing ready _ (looked .index-of .ensures .0) (c .if1 .taken)
 
 place-in-requires : tie.Need-place-in-requires
 place-in-requires c κs =
@@ -24,11 +23,9 @@ returns-met c =
     let area = point .before .before in
     let met = area .before in
     let looked = met .before .before in
-    let ready = looked .before .before .before .before .before .pre in (
-      place-met ready _ (looked .index-of .ensures .0) (met .if1 .left)
-          (area .area-of .ensures) (point .vec-at .ensures) (asked .place-in .ensures) (c .before .place-told .ensures) (c .passed .ensures),
-      kept-passed _ (ready .kept) (c .passed .ensures),
-    )
+    let ready = looked .before .before .before .before .before .pre in
+    place-met ready _ (looked .index-of .ensures .0) (met .if1 .left)
+    (area .area-of .ensures) (point .vec-at .ensures) (asked .place-in .ensures) (c .before .place-told .ensures) (c .passed .ensures)
 
 pub place-step-spec : {M : Type 1} → statement M
 place-step-spec =

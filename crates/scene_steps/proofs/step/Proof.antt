@@ -31,35 +31,22 @@ pair-step-requires c κs =
     ready-on (read .before .before .before .before .before .pre) (read .read-at .ensures) (pair-found c .number3 .given .1)
 
 returns-end : tie.Need-returns
-returns-end c =
-    let read = c .before .before in
-    (step-is _ _ (read .read-at .ensures) (c .enum-told .given .1) refl, read .before .before .before .before .before .pre .kept)
+returns-end c = step-is _ _ _ _ _ (c .before .before .read-at .ensures) (c .enum-told .given .1) refl
 
 returns-bad : tie.Need-returns-2
-returns-bad c =
-    let read = c .before .before .before in
-    (step-is _ _ (read .read-at .ensures) (c .before .f .given .1) refl, read .before .before .before .before .before .pre .kept)
+returns-bad c = step-is _ _ _ _ _ (c .before .before .before .read-at .ensures) (c .before .f .given .1) refl
 
 abbrev stepped : tie.After-slice-known6 → tie.After-area-step
 stepped c = c .before .before .before .before .before .before
 
 returns-area : tie.Need-returns-3
-returns-area c = (
-  step-is _ _ (area-found (stepped c .before) .before .before .read-at .ensures) (area-found (stepped c .before) .number .given .1) (stepped c .area-step .ensures .0),
-  stepped c .area-step .ensures .1,
-)
+returns-area c = step-is _ _ _ _ _ (area-found (stepped c .before) .before .before .read-at .ensures) (area-found (stepped c .before) .number .given .1) (stepped c .area-step .ensures)
 
 returns-place : tie.Need-returns-4
-returns-place c = (
-  step-is _ _ (place-found (c .before) .before .before .read-at .ensures) (place-found (c .before) .number2 .given .1) (c .place-step .ensures .0),
-  c .place-step .ensures .1,
-)
+returns-place c = step-is _ _ _ _ _ (place-found (c .before) .before .before .read-at .ensures) (place-found (c .before) .number2 .given .1) (c .place-step .ensures)
 
 returns-pair : tie.Need-returns-5
-returns-pair c = (
-  step-is _ _ (pair-found (c .before) .before .before .read-at .ensures) (pair-found (c .before) .number3 .given .1) (c .pair-step .ensures .0),
-  c .pair-step .ensures .1,
-)
+returns-pair c = step-is _ _ _ _ _ (pair-found (c .before) .before .before .read-at .ensures) (pair-found (c .before) .number3 .given .1) (c .pair-step .ensures)
 
 pub step-spec : {M : Type 1} → statement M
 step-spec =

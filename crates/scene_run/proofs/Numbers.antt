@@ -1,0 +1,179 @@
+-- A line that a record comes to is none that ends a text, and its numbers have at most five digits; so has the number of a refusal. Assumes nothing.
+use Prim.Native.Nat.{ℕ, zero, suc, _+_, _-_, _*_, _/_, _%_, _≤_, _<_}
+use mathlib.Core.Path.{_≡_, refl}
+use mathlib.Core.Bool.{Bool, true, false, cond}
+use mathlib.Core.List.{List, [], _∷_, _++_}
+use native.Mathlib.Omega.{arith}
+use lib.ListN.{length, drop, getD, length-take}
+use lib.Dec.{ltb, leb, eqb}
+use lib.Ieee.{Float}
+use Rattle.wire.specs.Wire.{vecOf}
+use Rattle.loop_header.specs.declared.State.{State}
+use Rattle.loop_header.specs.declared.State.the-variants.{Empty, Full, Ring}
+use Rattle.loop_header.specs.declared.Header.{Header}
+use Rattle.loop_header.specs.Loops.{cutFault}
+use Rattle.loop_build.specs.Build as B
+use Rattle.loop_ask.specs.Answers.{Told, refused, answer}
+use Rattle.ring_cut.specs.Cut as C
+use Rattle.loop_triangles.specs.Triangles.{Outcome, outcome, roomy, fullOutcome, cutTold, laid, ringOutcome, stateOutcome, outcomeBy, triangulateOutcome}
+use Rattle.scene_lines.specs.declared.Line.{Line}
+use Rattle.scene_records.specs.declared.Fault.the-variants.{CutShort, UnknownKind, WrongLength, NotMet}
+use Rattle.scene_records.specs.declared.Read.{Read}
+use Rattle.scene_records.specs.declared.Read.the-variants as Read
+use Rattle.scene_records.specs.Records.{u16Of, u32Of, areaAt, placeAt, pairAt, kindAt, readAt}
+use Rattle.scene_store.specs.declared.Area.{Area}
+use Rattle.scene_store.specs.Store.{corners, codes, blank, counted, triangleCount, placeIn, pairIn}
+use Rattle.scene_store.proofs.Counts.{built-count}
+use Rattle.scene_notes.specs.declared.Judged.{Judged}
+use Rattle.scene_notes.specs.declared.Judged.the-variants.{Fine, Bad}
+use Rattle.scene_notes.specs.Noted as N
+use Rattle.scene_notes.specs.Noted.{Scene, judgeArea}
+use Rattle.scene_notes.proofs.Tables.{allowed}
+use Rattle.scene_steps.specs.Steps.{Step, ended, faulty, wrote, areaTold, areaOut, areaMade, areaBy, areaStep, isMet, met, placeTold, placeStep, pairTold, pairStep, stepBy, step, Good}
+use Rattle.scene_steps.specs.Steps as S
+use Rattle.scene_run.specs.Texts.{Each, isLast, numbersOf}
+use Rattle.scene_run.proofs.Refusals.{Few, place-few, pair-few, BuiltFew, built-few}
+
+-- ---- numbers as they are read: two bytes
+all-bytes : (s : List ℕ) → ((i : ℕ) → i < length s → getD s i 0 < 256) → (i : ℕ) → getD s i 0 < 256
+all-bytes [] h i = omega arith
+all-bytes (x ∷ s) h zero = h 0 (omega arith)
+all-bytes (x ∷ s) h (suc i) = all-bytes s (λ j g. h (suc j) (omega (arith, g))) i
+
+abbrev ReadSmall : Read → Type 0
+ReadSmall Read.End = Unit {0}
+ReadSmall (Read.Bad f place) = Unit {0}
+ReadSmall (Read.Area number count) = number < 65536
+ReadSmall (Read.Place number) = number < 65536
+ReadSmall (Read.Pair number other) = (number < 65536) × (other < 65536)
+
+either : (b : Bool) (x y : Read) → ReadSmall x → ReadSmall y → ReadSmall (cond b x y)
+either true x y f g = f
+either false x y f g = g
+
+module _ (s : List ℕ) (bytes : (i : ℕ) → i < length s → getD s i 0 < 256) (at : ℕ) where
+  two-bytes : (k : ℕ) → u16Of s k < 65536
+  two-bytes k = omega (arith, all-bytes s bytes k, all-bytes s bytes (k + 1))
+
+  area-read : (len : ℕ) → ReadSmall (areaAt s at len)
+  unfolding areaAt
+  area-read len = either (eqb (len % 24) 2) (Read.Area (u16Of s (at + 6)) (len / 24)) (Read.Bad WrongLength at) (two-bytes (at + 6)) tt
+
+  place-read : (len : ℕ) → ReadSmall (placeAt s at len)
+  unfolding placeAt
+  place-read len = either (eqb len 26) (Read.Place (u16Of s (at + 6))) (Read.Bad WrongLength at) (two-bytes (at + 6)) tt
+
+  pair-read : (len : ℕ) → ReadSmall (pairAt s at len)
+  unfolding pairAt
+  pair-read len = either (eqb len 4) (Read.Pair (u16Of s (at + 6)) (u16Of s (at + 8))) (Read.Bad WrongLength at) (two-bytes (at + 6), two-bytes (at + 8)) tt
+
+  kind-read : (len : ℕ) → ReadSmall (kindAt s at len)
+  unfolding kindAt
+  kind-read len =
+      let k = u16Of s (at + 4) in
+      let r = cond (eqb k 3) (pairAt s at len) (Read.Bad UnknownKind at) in
+      either (eqb k 1) (areaAt s at len) (cond (eqb k 2) (placeAt s at len) r) (area-read len)
+      (either (eqb k 2) (placeAt s at len) r (place-read len) (either (eqb k 3) (pairAt s at len) (Read.Bad UnknownKind at) (pair-read len) tt))
+
+  read-small : ReadSmall (readAt s at)
+  unfolding readAt
+  read-small =
+      let k = kindAt s at (u32Of s at) in
+      let r = cond (ltb (length s) (at + 6 + u32Of s at)) (Read.Bad CutShort at) k in
+      either (leb (length s) at) Read.End (cond (ltb (length s) (at + 6)) (Read.Bad CutShort at) r) tt
+      (either (ltb (length s) (at + 6)) (Read.Bad CutShort at) r tt (either (ltb (length s) (at + 6 + u32Of s at)) (Read.Bad CutShort at) k tt (kind-read (u32Of s at))))
+
+-- ---- triangles: no more than corners, or 20
+module _ (m : ℕ) where
+  room-few : (b : Bool) (tris : List ℕ) (o : Outcome) → counted (o .answer) ≤ m → counted (roomy b tris o .answer) ≤ m
+  room-few true tris o h = omega arith
+  room-few false tris o h = h
+
+  told-few : (b : Bool) (n : ℕ) → n ≤ m → counted (cutTold b n) ≤ m
+  told-few true n h = h
+  told-few false n h = omega arith
+
+  by-few : (k : ℕ) (tris : List ℕ) (o : Outcome) → counted (o .answer) ≤ m → counted (outcomeBy k tris o .answer) ≤ m
+  by-few zero tris o h = h
+  by-few (suc k) tris o h = omega arith
+
+module _ (ps : List Float) (cs tris : List ℕ) where
+  ring-few : counted (ringOutcome ps cs tris .answer) ≤ length cs + 20
+  unfolding ringOutcome
+  ring-few =
+      let o = C.cutRingOutcome ps cs tris in
+      room-few (length cs + 20) (ltb (length tris) (3 * (length cs - 2))) tris (laid o (length cs - 2)) (told-few (length cs + 20) (o .answer) (length cs - 2) (omega arith))
+
+  full-few : counted (fullOutcome tris .answer) ≤ length cs + 20
+  unfolding fullOutcome
+  full-few = room-few (length cs + 20) (ltb (length tris) 60) tris (outcome (answer 20) _) (omega arith)
+
+  state-few : (state : State) → counted (stateOutcome state ps cs tris .answer) ≤ length cs + 20
+  state-few Empty = omega arith
+  state-few Full = full-few
+  state-few Ring = ring-few
+
+triangles-few : (a : Area) (ps : List Float) (cs : List ℕ) → triangleCount a ps cs ≤ a .header .count + 20
+unfolding triangleCount triangulateOutcome
+triangles-few a ps cs =
+    let few : length (codes a cs) ≤ a .header .count = rw length-take (omega arith) in
+    let h = by-few (length (codes a cs) + 20) (cutFault (a .header) (corners a ps) (codes a cs)) blank (stateOutcome (a .header .state) (corners a ps) (codes a cs) blank)
+    (state-few (corners a ps) (codes a cs) blank (a .header .state)) in
+    omega (arith, h, few)
+
+-- ---- what a record comes to
+pub record Small (line : Line) : Type 0 where
+  pub not-last : isLast line ≡ false
+  pub numbers : Each (λ (n : ℕ). n < 100000) (numbersOf line)
+
+abbrev pub StepSmall : Step → Type 0
+StepSmall ended = Unit {0}
+StepSmall (faulty f) = Unit {0}
+StepSmall (S.refused k) = k ≤ 9
+StepSmall (wrote line next) = Small line
+
+place-small : (w : Scene) (number : ℕ) → number < 65536 → (t : Told) → Few t → StepSmall (placeTold w number t)
+place-small w number h (refused k) f = f
+place-small w number h (answer n) f = record { not-last = refl; numbers = (omega arith, tt) }
+
+pair-small : (w : Scene) (number other : ℕ) → (number < 65536) × (other < 65536) → (t : Told) → Few t → StepSmall (pairTold w number other t)
+pair-small w number other h (refused k) f = f
+pair-small w number other h (answer n) f = record { not-last = refl; numbers = (omega (arith, h .0), (omega (arith, h .1), tt)) }
+
+met-small : (b : Bool) (x : Step) → StepSmall x → StepSmall (cond b x (faulty NotMet))
+met-small true x f = f
+met-small false x f = tt
+
+module _ (s : List ℕ) (w : Scene) where
+  area-small : (number count : ℕ) → number < 65536 → Fine ≡ judgeArea (w .areas) (w .given) number count → (t : B.Told) → t ≡ areaOut s w count .answer → BuiltFew t
+      → StepSmall (areaTold w number count (areaOut s w count) t)
+  area-small number count h g (B.refused k) q f = f
+  area-small number count h g (B.loop k) q f =
+      let c : k .count ≤ count = built-count s (w .at + 8) count (w .used) (w .positions) (w .normals) (w .classes) q in
+      let m = allowed (w .areas) (w .given) number count g .few in
+      let o = areaOut s w count in
+      let d = triangles-few (N.areaAt (w .used) number k) (o .positions) (o .classes) in
+      record { not-last = refl; numbers = (omega arith, (omega (arith, c, m), (omega (arith, c, m, d), tt))) }
+
+  judged-small : (number count : ℕ) → number < 65536 → (j : Judged) → j ≡ judgeArea (w .areas) (w .given) number count → StepSmall (areaBy j s w number count)
+  unfolding areaMade
+  judged-small number count h (Bad f) q = tt
+  judged-small number count h Fine q =
+      area-small number count h q (areaOut s w count .answer) refl (built-few _ (w .used) (w .positions) (w .normals) (w .classes))
+
+  by-read : (r : Read) → ReadSmall r → StepSmall (stepBy r s w)
+  unfolding areaStep placeStep pairStep
+  by-read Read.End h = tt
+  by-read (Read.Bad f place) h = tt
+  by-read (Read.Area number count) h = judged-small number count h (judgeArea (w .areas) (w .given) number count) refl
+  by-read (Read.Place number) h =
+      let t = placeIn (met w number) (w .positions) (w .normals) (w .classes) (vecOf s (w .at + 8)) in
+      met-small (isMet w number) (placeTold w number t) (place-small w number h t (place-few (met w number) (w .positions) (w .normals) (w .classes) (vecOf s (w .at + 8))))
+  by-read (Read.Pair number other) h =
+      let t = pairIn (met w number) (met w other) (w .positions) (w .normals) (w .classes) in
+      let f = pair-small w number other h t (pair-few (met w number) (met w other) (w .positions) (w .normals) (w .classes)) in
+      met-small (isMet w number) (cond (isMet w other) (pairTold w number other t) (faulty NotMet)) (met-small (isMet w other) (pairTold w number other t) f)
+
+  pub step-small : ((i : ℕ) → i < length s → getD s i 0 < 256) → StepSmall (step s w)
+  unfolding step
+  step-small bytes = by-read (readAt s (w .at)) (read-small s bytes (w .at))

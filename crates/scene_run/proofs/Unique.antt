@@ -1,9 +1,9 @@
--- For every input one output: what the program leaves in the lent bytes and answers is fixed by its contract. Assumes nothing.
+-- For every input one output: what the program leaves in the lent bytes and answers is fixed by the contract of `run` itself. Assumes nothing.
 use Prim.Native.Nat.{ℕ}
-use mathlib.Core.Path.{_≡_, sym, _∙_}
+use mathlib.Core.Path.{_≡_, sym, ap, _∙_}
 use mathlib.Core.List.{List}
-use Rattle.scene_words.specs.Words.{Wrote}
-use Rattle.scene_run.specs.Run.{sceneText}
+use Rattle.outcomes.specs.Outcomes.{One}
+use Rattle.scene_run.proofs.run as Run
 
-pub run-unique : (s out : List ℕ) {o o′ : List ℕ} {r r′ : ℕ} → Wrote out 0 (sceneText s) o r → Wrote out 0 (sceneText s) o′ r′ → (o ≡ o′) × (r ≡ r′)
-run-unique s out v w = (v .text-there ∙ sym (w .text-there), v .next-offset ∙ sym (w .next-offset))
+pub run-unique : One Run.Kinds.ps Run.Kinds.r Run.Reads.Post
+run-unique κs a x y v w p q = (p .0 .next-offset ∙ sym (q .0 .next-offset), ap (λ (l : List ℕ). (tt, (l, tt))) (p .0 .text-there ∙ sym (q .0 .text-there)))

@@ -2,13 +2,14 @@
 use Prim.Native.Nat.{ℕ}
 use mathlib.Core.Path.{_≡_, refl, sym, ap, _∙_}
 use mathlib.Core.List.{List}
-use lib.Ieee.{Float}
 use Rattle.arcs.proofs.Unique as Arcs
 use Rattle.loop_build.proofs.Unique.{told-apart, build-unique}
 use Rattle.loop_ask.proofs.Unique as Ask
 use Rattle.loop_triangles.proofs.Unique.{one-cut, triangulate-unique, accepts-unique}
 use Rattle.loop_relate.proofs.Unique.{one-relation, relate-unique}
-use Rattle.bytes_loop.specs.Outcome.{Outcome}
+use Rattle.bytes_loop.specs.Outcome.{Outcome, outcome}
+use Rattle.exports.proofs.Unique.{one-outcome}
+use Rattle.scene_run.proofs.Unique.{run-unique}
 use Rattle.bytes_build.specs.Build.{FloatsOutcome}
 use Rattle.theorem_unique.specs.Unique.{Definitions, OfRoots, OfArcs, OfLoops, OfExports, OfProbes, OfScenes, Unique}
 
@@ -56,47 +57,57 @@ of-loops = record {
   relate = relate-unique;
 }
 
--- a number alone, and a number with what is lent at exit
+-- a number with the one lent buffer at exit, by where that stands among the parameters
+at-1 : {A : Type 0} {t : Outcome A} (x y : ℕ) (v w : List A × Unit {0}) → outcome x (v .0) ≡ t → outcome y (w .0) ≡ t → (x ≡ y) × (v ≡ w)
+at-1 x y v w p q = let e = one-outcome x y (v .0) (w .0) p q in (e .0, ap (λ l. (l, tt)) (e .1))
+
+at-2 : {A : Type 0} {t : Outcome A} (x y : ℕ) (v w : Unit {0} × (List A × Unit {0})) → outcome x (v .1 .0) ≡ t → outcome y (w .1 .0) ≡ t → (x ≡ y) × (v ≡ w)
+at-2 x y v w p q = let e = at-1 x y (v .1) (w .1) p q in (e .0, ap (λ u. (tt, u)) (e .1))
+
+at-3 : {A : Type 0} {t : Outcome A} (x y : ℕ) (v w : Unit {0} × (Unit {0} × (List A × Unit {0}))) → outcome x (v .1 .1 .0) ≡ t → outcome y (w .1 .1 .0) ≡ t → (x ≡ y) × (v ≡ w)
+at-3 x y v w p q = let e = at-2 x y (v .1) (w .1) p q in (e .0, ap (λ u. (tt, u)) (e .1))
+
+at-4 : {A : Type 0} {t : Outcome A} (x y : ℕ) (v w : Unit {0} × (Unit {0} × (Unit {0} × (List A × Unit {0})))) → outcome x (v .1 .1 .1 .0) ≡ t → outcome y (w .1 .1 .1 .0) ≡ t
+    → (x ≡ y) × (v ≡ w)
+at-4 x y v w p q = let e = at-3 x y (v .1) (w .1) p q in (e .0, ap (λ u. (tt, u)) (e .1))
+
 of-exports : OfExports
 of-exports = record {
   desk_root = λ κs a x y v w p q. (p .same ∙ sym (q .same), refl);
   desk_atan2 = λ κs a x y v w p q. (p ∙ sym q, refl);
-  desk_build = λ κs a x y v w p q. let e = p ∙ sym q in (ap (λ (o : Outcome ℕ). o .number) e, ap (λ (o : Outcome ℕ). (tt, (o .out, tt))) e);
+  desk_build = λ κs a. at-2;
   desk_place = λ κs a x y v w p q. (p ∙ sym q, refl);
   desk_vertex = λ κs a x y v w p q. (p ∙ sym q, refl);
   desk_on_edge = λ κs a x y v w p q. (p ∙ sym q, refl);
   desk_convex = λ κs a x y v w p q. (p ∙ sym q, refl);
   desk_simple = λ κs a x y v w p q. (p ∙ sym q, refl);
   desk_place_f64 = λ κs a x y v w p q. (p ∙ sym q, refl);
-  desk_triangles = λ κs a x y v w p q. let e = p ∙ sym q in (ap (λ (o : Outcome ℕ). o .number) e, ap (λ (o : Outcome ℕ). (tt, (o .out, tt))) e);
-  desk_triangles_f64 = λ κs a x y v w p q. let e = p ∙ sym q in (ap (λ (o : Outcome ℕ). o .number) e, ap (λ (o : Outcome ℕ). (tt, (tt, (tt, (o .out, tt))))) e);
-  desk_full_positions = λ κs a x y v w p q. let e = p ∙ sym q in (ap (λ (o : Outcome Float). o .number) e, ap (λ (o : Outcome Float). (o .out, tt)) e);
+  desk_triangles = λ κs a. at-2;
+  desk_triangles_f64 = λ κs a. at-4;
+  desk_full_positions = λ κs a. at-1;
   desk_accepts = λ κs a x y v w p q. (p ∙ sym q, refl);
   desk_pair = λ κs a x y v w p q. (p ∙ sym q, refl);
   desk_equivalent = λ κs a x y v w p q. (p ∙ sym q, refl);
   desk_pair_f64 = λ κs a x y v w p q. (p ∙ sym q, refl);
   desk_build_f64 = λ κs a x y v w p q. let e = p ∙ sym q in (ap (λ (o : FloatsOutcome). o .number) e, ap (λ (o : FloatsOutcome). (tt, (o .header, (o .positions, (o .normals, (o .classes, tt)))))) e);
-  desk_arc = λ κs a x y v w p q. let e = p ∙ sym q in (ap (λ (o : Outcome ℕ). o .number) e, ap (λ (o : Outcome ℕ). (tt, (tt, (o .out, tt)))) e);
-  desk_arc_opposite = λ κs a x y v w p q. let e = p ∙ sym q in (ap (λ (o : Outcome ℕ). o .number) e, ap (λ (o : Outcome ℕ). (tt, (o .out, tt))) e);
+  desk_arc = λ κs a. at-3;
+  desk_arc_opposite = λ κs a. at-2;
   desk_arc_side = λ κs a x y v w p q. (p ∙ sym q, refl);
   desk_arc_contains = λ κs a x y v w p q. (p ∙ sym q, refl);
-  desk_arc_intersection = λ κs a x y v w p q. let e = p ∙ sym q in (ap (λ (o : Outcome ℕ). o .number) e, ap (λ (o : Outcome ℕ). (tt, (tt, (o .out, tt)))) e);
-  desk_arc_relate = λ κs a x y v w p q. let e = p ∙ sym q in (ap (λ (o : Outcome ℕ). o .number) e, ap (λ (o : Outcome ℕ). (tt, (tt, (o .out, tt)))) e);
+  desk_arc_intersection = λ κs a. at-3;
+  desk_arc_relate = λ κs a. at-3;
 }
 
 of-probes : OfProbes
 of-probes = record {
-  leaf_vec = λ κs a x y v w p q. let e = p ∙ sym q in (ap (λ (o : Outcome Float). o .number) e, ap (λ (o : Outcome Float). (tt, (tt, (o .out, tt)))) e);
+  leaf_vec = λ κs a. at-3;
   leaf_number = λ κs a x y v w p q. (p ∙ sym q, refl);
   leaf_case = λ κs a x y v w p q. (p ∙ sym q, refl);
-  leaf_cap = λ κs a x y v w p q. let e = p ∙ sym q in (ap (λ (o : Outcome Float). o .number) e, ap (λ (o : Outcome Float). (tt, (o .out, tt))) e);
+  leaf_cap = λ κs a. at-2;
 }
 
 of-scenes : OfScenes
-of-scenes = record {
-  run = λ κs a x y v w p q.
-      (p .0 .next-offset ∙ sym (q .0 .next-offset), ap (λ (t : List ℕ). (tt, (t, tt))) (p .0 .text-there ∙ sym (q .0 .text-there)));
-}
+of-scenes = record { run = run-unique }
 
 pub unique : Unique
 unique = record {

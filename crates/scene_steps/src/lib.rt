@@ -42,7 +42,10 @@ fn area_line(
     classes: &[u8],
 ) -> Stepped
     requires { ⌜ St.Lies (N.areaAt (c .used) number h) (now positions) (now normals) (now classes) × N.Addable c (N.areaAt (c .used) number h) count ⌝ }
-    ensures { λ r. ⌜ r ≡ record { report = Report.Line (Line.Area number h (St.triangleCount (N.areaAt (c .used) number h) (now (positions .entry)) (now (classes .entry)))); next = N.addedNotes c (N.areaAt (c .used) number h) count } ⌝ }
+    ensures { λ r. ⌜ r ≡ record {
+      report = Report.Line (Line.Area number h (St.triangleCount (N.areaAt (c .used) number h) (now (positions .entry)) (now (classes .entry))));
+      next = N.addedNotes c (N.areaAt (c .used) number h) count;
+    } ⌝ }
 {
     let a = Area {
         number,

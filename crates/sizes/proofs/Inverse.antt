@@ -117,7 +117,8 @@ mul-two (fin s m e) (inf t) f g h = absurd g
 mul-two (fin s m e) (fin t n d) f g h = round-under _ (m * up e * (n * up d)) (down e * down d) 2 1 (mul-pos (down-pos e) (down-pos d)) (zero-lt-suc 0) (lib.Ieee.Back.round-whole binary64 false 2 (lit≤ tt)) (omega (arith, h))
 
 -- 1 over n, where n is at least 2 ^ k units
-inverse : (m : ℕ) (e : ℤ) (R k : ℕ) → suc m * up e * 2 ^ 1074 ≡ R * down e → 2 ^ k ≤ R → 50 < k → k ≤ 2098 → Under (div binary64 F.one (fin false (suc m) e)) (2 ^ 1074) (2 ^ k) × Plus (div binary64 F.one (fin false (suc m) e))
+inverse : (m : ℕ) (e : ℤ) (R k : ℕ) → suc m * up e * 2 ^ 1074 ≡ R * down e → 2 ^ k ≤ R → 50 < k → k ≤ 2098
+    → Under (div binary64 F.one (fin false (suc m) e)) (2 ^ 1074) (2 ^ k) × Plus (div binary64 F.one (fin false (suc m) e))
 unfolding ofBits
 inverse m e R k u l a b =
     subst (λ (z : Float). Under z (2 ^ 1074) (2 ^ k) × Plus z) (sym (div-is F.one (fin false (suc m) e) tt tt (mul-pos (zero-lt-suc m) (up-pos e))))

@@ -71,7 +71,9 @@ twice-nan = refl
 -- the root of a product below 0 is a NaN
 joined-size : (a b : Float) → Size a 48 → Size b 1 → Size (joined a b .0) 4241
 unfolding joined
-joined-size a b h k = from-size total 4241 (lit≤ tt) (⊎-elim (λ e. inl (off e)) (λ r. inr (on r)) (root-size (F._⊗_ x y) (mul-fits binary64 x y) (size-grow (F._⊗_ x y) 4704 4194304 (lit≤ tt) (mul-size x y 96 49 x-is y-is (lit≤ tt)))))
+joined-size a b h k =
+    from-size total 4241 (lit≤ tt)
+    (⊎-elim (λ e. inl (off e)) (λ r. inr (on r)) (root-size (F._⊗_ x y) (mul-fits binary64 x y) (size-grow (F._⊗_ x y) 4704 4194304 (lit≤ tt) (mul-size x y 96 49 x-is y-is (lit≤ tt)))))
   where
     x : Float
     x = F._⊗_ a (F._⊖_ F.one (F._⊗_ F.quarter b))

@@ -31,7 +31,8 @@ use Rattle.loop_relate.specs.Relations.{relateAnswer}
 use Rattle.theorem_settled.specs.Settled.{at, built, blank, blank-classes, area-1, four-corners, four-built, four-checked, full-one, empty-one, related}
 use Rattle.theorem_settled.proofs.Computing as Computing
 use Rattle.theorem_wrongs.proofs.Computing.{of-places, of-pairs}
-use Rattle.theorem_wrongs.proofs.Rings.{ring, area-1-built, area-2-built, across-built, in-the-other-built, in-the-one-built, one-mean-built, round-z-built, repeated-built, four-corners-built, five-positions-built, to-and-fro-built}
+use Rattle.theorem_wrongs.proofs.Rings.{ring, area-1-built, area-2-built, across-built, in-the-other-built, in-the-one-built}
+use Rattle.theorem_wrongs.proofs.Rings.{one-mean-built, round-z-built, repeated-built, four-corners-built, five-positions-built, to-and-fro-built}
 use Rattle.theorem_wrongs.specs.Wrongs.{in-area-1, to-and-fro, header, placed, cutFrom, cutInto, checked, pair, toFull, classesBySide, cuttingAfresh, cutAfresh, one-mean, round-z, muted, fourTo, between, answerAlone}
 use Rattle.theorem_wrongs.specs.Wrongs.{OutsideAlways, DisjointAlways, BlankRing, Fan, EmptyPrograms, Traps, OfNumbers, OfBuilding, OfAsking, OfCutting, OfRelating, OfMute, OfContracts, Wrongs}
 

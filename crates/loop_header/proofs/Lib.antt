@@ -3,3 +3,4 @@ pub mod Sounds
 pub mod Rings
 pub mod Vectors
 pub mod Exact
+pub mod Most

@@ -1,8 +1,7 @@
 -- Loops as built are refused by 8, 7 and 9 alone: the statement of specs/Built.antt, question by question. Assumes nothing.
 use Prim.Native.Nat.{ℕ, _-_, _*_, _%_, _≤_, _<_}
 use mathlib.Core.Path.{_≡_, refl, sym, ap, _∙_}
-use mathlib.Core.Bool.{Bool, true, false, not, _&&_, cond, true≢false}
-use mathlib.Core.Logic.{_⊎_, inl, inr, ⊎-elim}
+use mathlib.Core.Bool.{Bool, true, false, cond, true≢false}
 use mathlib.Core.List.{List}
 use native.Mathlib.Omega.{arith}
 use lib.ListN.{length}
@@ -17,7 +16,6 @@ use Rattle.vec3.specs.declared.Insides.{Insides}
 use Rattle.vec3.specs.declared.Insides.the-variants.{Absent, Two}
 use Rattle.vec3.specs.Vec.{cleared}
 use Rattle.judge.specs.Judge.{faultOf}
-use Rattle.cap.specs.Caps.{intersects}
 use Rattle.ring_edges.specs.Edges.{hasVertex, onEdge}
 use Rattle.ring_place.specs.Places.{inTriangle}
 use Rattle.ring_shape.specs.Shapes as S
@@ -26,19 +24,20 @@ use Rattle.ring_cut.proofs.Steps.{cutting-end}
 use Rattle.ring_cut.proofs.Wholes.{size}
 use Rattle.ring_check.specs.Accepted.{accepted}
 use Rattle.ring_pair.specs.Probes.{askedMidpoint, firstMiddle, middleProbe, unambiguousPoint}
-use Rattle.ring_pair.specs.Contacts.{isCrossed, isTouched, contactOf}
 use Rattle.loop_header.specs.declared.State.{State}
 use Rattle.loop_header.specs.declared.State.the-variants.{Empty, Full, Ring}
 use Rattle.loop_header.specs.declared.Header.{Header}
 use Rattle.loop_header.specs.Loops.{countFits, threesOf, shapeFault, ringFault, vectorsFault, ringOnly, cutFault, checkFault, loopFault}
 use Rattle.loop_header.proofs.Sounds.{sound}
 use Rattle.loop_ask.specs.Answers.{Told, refused, answer, boolTold}
-use Rattle.loop_ask.specs.Places.{clearedCap, insideCode, placeNoCorner, placeWithout, placeBy, placeOf, insideWith}
+use Rattle.loop_ask.specs.Places.{insideCode, placeNoCorner, placeWithout, placeBy, placeOf, insideWith}
 use Rattle.loop_ask.specs.Questions as Q
-use Rattle.loop_ask.specs.Questions.{fullState, queryFault, pairFault, equivalentLoops}
+use Rattle.loop_ask.specs.Questions.{queryFault, pairFault, equivalentLoops}
 use Rattle.loop_triangles.specs.Triangles.{Outcome, cutTold, fullOutcome, triangulateOutcome, acceptsAnswer}
-use Rattle.loop_triangles.proofs.Demand.{cut-is}
-use Rattle.loop_relate.specs.Relations.{emptyState, liesIn, byContainment, edgesIf, byEdges, equalIf, disjointIf, byCaps, fullIf, byStates, relateAnswer}
+use Rattle.loop_triangles.specs.Demand.{Cutting}
+use Rattle.loop_triangles.proofs.Demand.{cut-is, demand-3}
+use Rattle.loop_relate.specs.Relations.{liesIn, relateAnswer}
+use Rattle.loop_relate.proofs.Ways.{Way, refusal, equal, full, caps-apart, crossing, points, way}
 use Rattle.loop_relate.proofs.Sevens.{seven-only}
 use Rattle.theorem_built.specs.Built.{Answers, triangleCount, Cut, all, no-ear, Checked, Related, related, each-in-other, Built}
 use Rattle.theorem_built.proofs.Whole.{some, whole}
@@ -169,37 +168,6 @@ module _ (h : Header) (ps ns : List Float) (cs : List ℕ) (f : loopFault h ps n
     checked t Ring s = rw (check-is t, s) (bool-told (accepted ps cs tris))
 
 -- ---- two loops
--- one of the six relations, or 7
-abbrev Plain : Told → Type 0
-Plain t = Answers 5 t ⊎ (t ≡ refused 7)
-
-plain : (k : ℕ) → k ≤ 5 → Plain (answer k)
-plain k h = inl (told 5 k h)
-
-by-containment : (touched a b : Bool) → Plain (byContainment touched a b)
-by-containment touched true true = inr refl
-by-containment touched true false = plain 4 (omega arith)
-by-containment touched false true = plain 3 (omega arith)
-by-containment true false false = plain 1 (omega arith)
-by-containment false false false = plain 0 (omega arith)
-
-edges-if : (b : Bool) (t : Told) → Plain t → Plain (edgesIf b t)
-edges-if true t h = plain 2 (omega arith)
-edges-if false t h = h
-
-equal-if : (b : Bool) (t : Told) → Plain t → Plain (equalIf b t)
-equal-if true t h = plain 5 (omega arith)
-equal-if false t h = h
-
-disjoint-if : (b : Bool) (t : Told) → Plain t → Plain (disjointIf b t)
-disjoint-if true t h = plain 0 (omega arith)
-disjoint-if false t h = h
-
-full-if : (a b : Bool) (t : Told) → Plain t → Plain (fullIf a b t)
-full-if true true t h = plain 5 (omega arith)
-full-if true false t h = plain 3 (omega arith)
-full-if false b t h = h
-
 -- a loop with no corner lies in none
 nowhere : (h : Header) (ps : List Float) (o : Header) (qs ms : List Float) → h .count ≡ 0 → liesIn h ps o qs ms ≡ false
 unfolding liesIn unambiguousPoint askedMidpoint middleProbe firstMiddle anyOf firstAt
@@ -219,28 +187,33 @@ module _ (h : Header) (ps ns : List Float) (cs : List ℕ) (o : Header) (qs ms :
   unfolding Q.equivalentAnswer
   equivalent = rw both (bool-told (equivalentLoops h ps cs o qs ds))
 
-  by-edges : Plain (byEdges h ps ns o qs ms)
-  unfolding byEdges
-  by-edges = let k = contactOf ps ns (h .count) qs ms (o .count) in edges-if (isCrossed k) _ (by-containment (isTouched k) (liesIn h ps o qs ms) (liesIn o qs h ps ns))
-
-  by-caps : Plain (byCaps h ps ns cs o qs ms ds)
-  unfolding byCaps
-  by-caps = disjoint-if (not (intersects (clearedCap (h .cap)) (clearedCap (o .cap)))) _ (equal-if (equivalentLoops h ps cs o qs ds) _ by-edges)
-
-  by-states : Plain (byStates h ps ns cs o qs ms ds)
-  unfolding byStates
-  by-states = full-if (fullState (h .state)) (fullState (o .state)) _ (equal-if (emptyState (h .state) && emptyState (o .state)) _ by-caps)
-
   seven : relateAnswer h ps ns cs o qs ms ds ≡ refused 7 → Related h o (relateAnswer h ps ns cs o qs ms ds)
   seven e =
       let s = seven-only h ps ns cs o qs ms ds e in
       rw e (each-in-other (is-ring h ps o qs ms (h .state) refl (fits h ps ns cs f) (s .first-in)) (is-ring o qs h ps ns (o .state) refl (fits o qs ms ds g) (s .second-in)))
 
+  -- one of the six relations, or 7
   relation : Related h o (relateAnswer h ps ns cs o qs ms ds)
-  relation = ⊎-elim related seven one
+  relation = go _ refl (way h ps ns cs o qs ms ds)
     where
-      one : Plain (relateAnswer h ps ns cs o qs ms ds)
-      one = unfold relateAnswer in rw both by-states
+      plain : (k : ℕ) → k ≤ 5 → relateAnswer h ps ns cs o qs ms ds ≡ answer k → Related h o (relateAnswer h ps ns cs o qs ms ds)
+      plain k l e = related (record { number = k; most = l; is = e })
+
+      go : (t : Told) → relateAnswer h ps ns cs o qs ms ds ≡ t → Way h ps ns cs o qs ms ds t → Related h o (relateAnswer h ps ns cs o qs ms ds)
+      go _ e (refusal k w) = absurd (omega (arith, both, w))
+      go _ e equal = plain 5 (omega arith) e
+      go _ e (full w s) = plain 3 (omega arith) e
+      go _ e (caps-apart c) = plain 0 (omega arith) e
+      go _ e crossing = plain 2 (omega arith) e
+      go _ e (points t true true c q a b) = seven e
+      go _ e (points t true false c q a b) = plain 4 (omega arith) e
+      go _ e (points t false true c q a b) = plain 3 (omega arith) e
+      go _ e (points true false false c q a b) = plain 1 (omega arith) e
+      go _ e (points false false false c q a b) = plain 0 (omega arith) e
+
+-- ---- the theorem on ears
+ears-of : (h : Header) (ps ns : List Float) (cs tris : List ℕ) → loopFault h ps ns cs ≡ 0 → h .state ≡ Ring → 3 * (h .count - 2) ≤ length tris → Cutting h ps cs tris
+ears-of h ps ns cs tris f s r = demand-3 .cutting h ps cs tris (record { fine = uncut h ps ns cs f; ring = s; room = rw (codes h ps ns cs f) r })
 
 pub built : Built
 built = record {
@@ -253,6 +226,7 @@ built = record {
   is-simple = λ a b. simple (a .header) (a .positions) (a .normals) (a .classes) (whole a b);
   is-equivalent = λ a c b d. equivalent (a .header) (a .positions) (a .normals) (a .classes) (c .header) (c .positions) (c .normals) (c .classes) (whole a b) (whole c d);
   triangulate = λ a b tris r. cut (a .header) (a .positions) (a .normals) (a .classes) (whole a b) tris (a .header .state) refl r;
+  ears = λ a b tris s r. ears-of (a .header) (a .positions) (a .normals) (a .classes) tris (whole a b) s r;
   accepts = λ a b tris t. checked (a .header) (a .positions) (a .normals) (a .classes) (whole a b) tris t (a .header .state) refl;
   relate = λ a c b d. relation (a .header) (a .positions) (a .normals) (a .classes) (c .header) (c .positions) (c .normals) (c .classes) (whole a b) (whole c d);
 }

@@ -18,6 +18,7 @@ use Rattle.loop_build.specs.Build.{Doubles, refusal, buildOutcome}
 use Rattle.loop_ask.specs.Answers.{Told, refused, answer}
 use Rattle.loop_ask.specs.Questions.{placeAnswer, vertexAnswer, onEdgeAnswer, convexAnswer, simpleAnswer, equivalentAnswer}
 use Rattle.loop_triangles.specs.Triangles.{triangulateOutcome, acceptsAnswer}
+use Rattle.loop_triangles.specs.Demand.{Cutting}
 use Rattle.loop_relate.specs.Relations.{relateAnswer}
 
 -- a loop as the questions take it: its header, and its positions, normals and classes
@@ -81,5 +82,7 @@ pub record Built : Type 0 where
   pub is-equivalent : (a b : Loop) → AsBuilt a → AsBuilt b → Answers 1 (ask (ask equivalentAnswer a) b)
   pub triangulate : (a : Loop) → AsBuilt a → (tris : List ℕ) → 3 * triangleCount (a .header .state) (a .header .count) ≤ length tris
       → Cut (a .header) (triangulateOutcome (a .header) (a .positions) (a .classes) tris .answer)
+  -- SCOPE 20: of a ring as built and with room, all that the theorem on ears says of `triangulate` (`loop_triangles/specs/Demand`)
+  pub ears : (a : Loop) → AsBuilt a → (tris : List ℕ) → a .header .state ≡ Ring → 3 * (a .header .count - 2) ≤ length tris → Cutting (a .header) (a .positions) (a .classes) tris
   pub accepts : (a : Loop) → AsBuilt a → (tris : List ℕ) → length tris % 3 ≡ 0 → Checked (a .header .state) (acceptsAnswer (a .header) (a .positions) (a .classes) tris)
   pub relate : (a b : Loop) → AsBuilt a → AsBuilt b → Related (a .header) (b .header) (ask (ask relateAnswer a) b)

@@ -66,7 +66,7 @@ module _ (l : List Float) (n : ℕ) where
     front-is true = refl
     front-is false = rw (← same-header (allBoth (classesOf l n (reversal l n))) (reversal l n) ps ns cs) (front-made (allBoth (classesOf l n (reversal l n))) (reversal l n) ps ns cs)
 
-  pub count-is : (b : Bool) → ltb n 3 ≡ b → (3 ≤ n → ⊥) → madeIf b l n .header .count ≡ 0
+  count-is : (b : Bool) → ltb n 3 ≡ b → (3 ≤ n → ⊥) → madeIf b l n .header .count ≡ 0
   count-is true e h = refl
   count-is false e h = absurd (h (ltb-false n 3 e))
 

@@ -1,6 +1,6 @@
 -- Floats that were written are read back from where they stand. Assumes nothing.
 use Prim.Native.Nat.{ℕ, _+_, _*_, _≤_, _<_}
-use mathlib.Core.Path.{_≡_, sym, ap, _∙_}
+use mathlib.Core.Path.{_≡_, refl, sym, ap, _∙_, subst}
 use mathlib.Core.List.{List, [], _∷_, _++_, append-nil}
 use native.Mathlib.Nat.{zero-add}
 use native.Mathlib.Omega.{arith}
@@ -8,6 +8,7 @@ use lib.ListN.{length, getD, List·getD-append}
 use lib.Seq.{getD-append-add}
 use lib.Dec.{T}
 use lib.Ieee.{Float, nan, binary64, ofBits, fits}
+use lib.Ieee.Bits.{ofBits-fits}
 use Rattle.laws.proofs.Blocks.{getD-flat}
 use Rattle.laws.proofs.Copies.{one, copied}
 use Rattle.laws.proofs.Parts.{flat-same}
@@ -15,7 +16,7 @@ use Rattle.loop_build.specs.Build.{Doubles}
 use Rattle.wire.specs.Wire.{u64Of, floatOf, floatBytes, floatBlock, floatsAt, floatBytesAt, floatsBytes}
 use Rattle.wire.proofs.Bytes.{eight}
 use Rattle.wire.proofs.Back.{float-back}
-use Rattle.wire.proofs.Lays.{floats-width}
+use Rattle.wire.proofs.Lays.{floats-width, floats-length}
 
 -- bytes m stand in s from an offset on
 abbrev pub Stands : List ℕ → ℕ → List ℕ → Type 0
@@ -62,3 +63,12 @@ floats-back s at l d t = flat-same (floatBlock s at) (one nan l) (length l) 0 (�
 
     each : (j : ℕ) → j < length l → floatOf s (at + 8 * j) ≡ getD l j nan
     each j h = float-at s (at + 8 * j) (getD l j nan) (d j h) (λ k g. rw (place j k, t (8 * j + k) (rw floats-width (omega arith))) (here j k h g))
+
+-- whatever the bytes are, what is read is doubles
+pub read-doubles : (s : List ℕ) (at n : ℕ) → Doubles (floatsAt s at n)
+unfolding floatsAt
+read-doubles s at n i h =
+    let e : 1 * i + 0 ≡ i = omega arith in
+    let g : i < n = omega (arith, floats-length s at n) in
+    let f = getD-flat nan 1 (floatBlock s at) (λ j. refl) n 0 i 0 g (omega arith) in
+    subst (λ (x : Float). T (fits binary64 x)) (sym (rw e at f)) (ofBits-fits binary64 _)

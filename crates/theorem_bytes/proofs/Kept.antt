@@ -5,12 +5,12 @@ use mathlib.Core.Bool.{Bool, true, false, _||_, cond}
 use mathlib.Core.List.{List, [], _∷_}
 use lib.ListN.{length, getD}
 use lib.Dec.{T, ltb}
-use lib.Ieee.{Float, nan, binary64, ofBits, add, fits, lt, le, eq, neg}
+use lib.Ieee.{Float, nan, binary64, ofBits, add, fits, lt, le, eq}
 use lib.Ieee.Bits.{ofBits-fits}
-use lib.Ieee.Fits.{nan-fits, add-fits, mul-fits, neg-fits}
+use lib.Ieee.Fits.{nan-fits, add-fits, mul-fits}
 use Rattle.numbers.specs.F64 as F
 use Rattle.numbers.specs.Choice.{if_then_else_}
-use Rattle.numbers.specs.Near.{near, abs}
+use Rattle.numbers.specs.Near.{near}
 use Rattle.root.specs.Root.{rootOf}
 use Rattle.laws.specs.Loop.{iterate, flat}
 use Rattle.vec3.specs.declared.Vec3.{Vec3}
@@ -18,7 +18,7 @@ use Rattle.vec3.specs.declared.Point.{Point}
 use Rattle.vec3.specs.declared.Point.the-variants.{Absent, At}
 use Rattle.vec3.specs.declared.Insides.{Insides}
 use Rattle.vec3.specs.declared.Insides.the-variants as I
-use Rattle.vec3.specs.Vec.{vec, cleared, origin, axis-z, same, dot, minus, times, product, unitVec, unit, stableUnit, axisFor, orthogonal, orthogonalTo, antipodes, mean3, posAt, coords}
+use Rattle.vec3.specs.Vec.{vec, cleared, origin, axis-z, same, dot, times, unitVec, unit, stableUnit, orthogonal, orthogonalTo, antipodes, mean3, posAt, coords}
 use Rattle.vec3.specs.Points.{triangleMean}
 use Rattle.chord_length.specs.declared.ChordLength.{ChordLength}
 use Rattle.chord_length.specs.Chords.{squared, negative, most, fromSquaredLength, chord, joined, sum, laterMax}
@@ -26,12 +26,10 @@ use Rattle.cap.specs.declared.Cap.{Cap}
 use Rattle.cap.specs.Caps.{growth, quarter-circle, emptyOne, fullOne, sumOf, farther, farthestOf, grown, boundingCap}
 use Rattle.minor_arc.proofs.Clears.{clear-once}
 use Rattle.ring_turns.specs.Turns.{edgeNormal}
-use Rattle.ring_corners.specs.Corners.{cornerAt, normalAt, ringOf, normalsOf, classesOf}
+use Rattle.ring_corners.specs.Corners.{cornerAt, normalAt, ringOf, classesOf}
 use Rattle.ring_cut.specs.Cut.{Ring}
 use Rattle.ring_insides.specs.Insides.{insidesOf}
 use Rattle.ring_insides.proofs.Means.{AtPoint, InInsides, insides-means}
-use Rattle.loop_header.specs.declared.Header.{Header}
-use Rattle.loop_header.specs.Loops.{emptyHeader, fullHeader}
 use Rattle.loop_build.specs.Build.{Doubles, listFault, openedCount, insidesFor, ringHeader}
 use Rattle.theorem_built.specs.Built.{Loop, AsBuilt}
 use Rattle.theorem_built.proofs.Whole.{emptyLoop, fullLoop, ringLoop, ring, of-three}

@@ -1,2 +1,5 @@
 pub mod Floats
 pub mod Kept
+pub mod Loops
+pub mod Writes
+pub mod Theorem

@@ -2,4 +2,5 @@ pub mod Floats
 pub mod Kept
 pub mod Loops
 pub mod Writes
+pub mod Numbers
 pub mod Theorem

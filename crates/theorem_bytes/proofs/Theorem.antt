@@ -33,29 +33,8 @@ use Rattle.theorem_built.specs.Built as B
 use Rattle.theorem_built.specs.Built.{Loop, AsBuilt, Answers, triangleCount}
 use Rattle.theorem_built.proofs.Theorem.{built, uncut}
 use Rattle.theorem_bytes.specs.Returned.{bytesOf, loopAt, Written, Cut, all, no-ear, Checked, Related, related, each-in-other, Returned}
-use Rattle.theorem_bytes.proofs.Writes.{same, framed, Read, read}
-
--- ---- the number of an answer
-number : (m : ℕ) (t : Told) → Answers m t → numberOf t ≤ m
-number m t a = rw (a .is) (a .most)
-
-cut-number : (h : Header) (t : Told) (l out : List ℕ) → triplesOf h ≡ triangleCount (h .state) (h .count) → B.Cut h t → Cut h (toldOutcome t l out .number)
-cut-number h _ l out e B.all = rw (← e) all
-cut-number h _ l out e (B.no-ear s c) = no-ear s c
-
-check-number : (s : State) (t : Told) → B.Checked s t → Checked s (numberOf t)
-check-number Empty t e = ap numberOf e
-check-number Full t e = ap numberOf e
-check-number Ring t a = number 1 t a
-
-pair-number : (h o : Header) (t : Told) → B.Related h o t → Related h o (numberOf t)
-pair-number h o t (B.related a) = related (number 5 t a)
-pair-number h o _ (B.each-in-other p q) = each-in-other p q
-
-triples-same : (s : State) (n : ℕ) → triplesBy s n ≡ triangleCount s n
-triples-same Empty n = refl
-triples-same Full n = refl
-triples-same Ring n = refl
+use Rattle.theorem_bytes.proofs.Numbers.{number, triples-same, cut-number, laid-number, check-number, pair-number}
+use Rattle.theorem_bytes.proofs.Writes.{same, framed, Read, read, some}
 
 module _ (s : List ℕ) (w : Written s) where
   abbrev R : Read s
@@ -101,12 +80,9 @@ module _ (s : List ℕ) (w : Written s) where
   simple = rw frame (number 1 _ (built .is-simple (loopAt s) as-built))
 
   -- ---- cutting and the checker
-  triples : triplesOf (headerAt s) ≡ triangleCount (headerAt s .state) (headerAt s .count)
-  triples = triples-same (headerAt s .state) (headerAt s .count)
-
   blank-room : 3 * triangleCount (headerAt s .state) (headerAt s .count) ≤ length (blank (3 * triplesOf (headerAt s)))
   unfolding blank
-  blank-room = rw (length-replicate, triples) (omega arith)
+  blank-room = rw (length-replicate, triples-same (headerAt s .state) (headerAt s .count)) (omega arith)
 
   triangles : (out : List ℕ) → 6 * triplesOf (headerAt s) ≤ length out → Cut (headerAt s) (trianglesOutcome s out .number)
   unfolding trianglesOutcome partsOutcome roomFault
@@ -114,8 +90,9 @@ module _ (s : List ℕ) (w : Written s) where
       let h = headerAt s in
       let l = blank (3 * triplesOf h) in
       let u = uncut h (positionsAt s) (normalsAt s) (classesAt s) fine in
-      rw (frame, u, le-ltb (length out) (6 * triplesOf h) r)
-      (cut-number h _ (T.triangulateOutcome h (positionsAt s) (classesAt s) l .triangles) out triples (built .triangulate (loopAt s) as-built l blank-room))
+      let o = T.triangulateOutcome h (positionsAt s) (classesAt s) l in
+      rw (frame, u, le-ltb (length out) (6 * triplesOf h) r, laid-number (o .answer) (o .triangles) out)
+      (cut-number h (o .answer) (built .triangulate (loopAt s) as-built l blank-room))
 
   accepts : (t : List ℕ) → length t % 6 ≡ 0 → Checked (headerAt s .state) (numberOf (acceptsTold s t))
   unfolding sixesFault
@@ -138,6 +115,7 @@ module _ (s r : List ℕ) (w : Written s) (v : Written r) where
 
 pub returned : Returned
 returned = record {
+  build = some;
   round-trip = record { same = same; as-built = as-built; whole = whole };
   frame-fault = frame;
   loop-fault = fine;

@@ -8,7 +8,7 @@ use lib.ListN.{length, take, replicate, length-replicate}
 use lib.Seq.{sets, sets-eq, take-at}
 use lib.Dec.{ltb, eqb}
 use lib.Ieee.{Float, nan}
-use borrow.Author.Tests.{ltb-false, le-ltb}
+use borrow.Author.Tests.{ltb-false, le-ltb, eq-eqb}
 use Rattle.laws.specs.Loop.{first}
 use Rattle.laws.proofs.Firsts.{first-zero, test-none}
 use Rattle.loop_header.specs.declared.State.{State}
@@ -19,7 +19,7 @@ use Rattle.loop_build.specs.Build as B
 use Rattle.loop_build.specs.Build.{Doubles, Made, listFault, openedCount, refusal}
 use Rattle.wire.specs.Wire.{vecSize}
 use Rattle.bytes_loop.specs.Outcome.{Outcome, outcomeBy}
-use Rattle.bytes_loop.specs.Layout.{loopSize, stateFault, frameFault, cornersFor}
+use Rattle.bytes_loop.specs.Layout.{loopSize, stateByte, stateFault, frameFault, cornersFor}
 use Rattle.bytes_loop.proofs.Faults.{frame-state}
 use Rattle.bytes_build.specs.Build.{madeIf, madeOf, madeBytes, corners, needFault, builtOutcome, listAt, buildOutcome, Roomy}
 use Rattle.bytes_build.proofs.Builds.{header-is, front-is, count-most}
@@ -37,6 +37,10 @@ state-small Empty = omega arith
 state-small Full = omega arith
 state-small Ring = omega arith
 
+pub state-fine : (s : List ℕ) (t : State) → stateByte s ≡ stateCode t → stateFault s ≡ 0
+unfolding stateFault
+state-fine s t e = rw (e, le-ltb 2 (stateCode t) (state-small t))
+
 module _ (a : Loop) (b : AsBuilt a) where
   abbrev S : Sound (a .header) (a .positions) (a .normals) (a .classes)
   S = sound (a .header) (a .positions) (a .normals) (a .classes) (whole a b)
@@ -51,8 +55,7 @@ module _ (a : Loop) (b : AsBuilt a) where
   framed =
       let c = count-same a (kept a b) (sound-most S) (sound-positions S) (S .normals) in
       let t = state-code a (kept a b) (sound-most S) (sound-positions S) (S .normals) in
-      let f : 0 ≡ stateFault (bytesOf a) = unfold stateFault in rw (t, le-ltb 2 (stateCode (a .header .state)) (state-small (a .header .state))) in
-      sym (frame-state (bytesOf a) (rw c width) f)
+      sym (frame-state (bytesOf a) (rw c width) (sym (state-fine (bytesOf a) (a .header .state) t)))
 
 -- ---- what was made of a list
 abbrev asLoop : Made → Loop
@@ -126,3 +129,13 @@ unfolding buildOutcome
 read _ (written list out h) =
     let a = answered (cond (eqb (length list % vecSize) 0) 0 1) out (builtOutcome (listAt list) out) h in
     rw (a .1) (of-list (listAt list) (read-doubles list 0 (length list / 8)) out (rw (a .1) at h))
+
+pub some : (list out : List ℕ) → length list % vecSize ≡ 0 → listFault (listAt list) ≡ 0 → loopSize (corners (openedCount (listAt list))) ≤ length out
+    → Written (take (loopSize (buildOutcome list out .number)) (buildOutcome list out .out))
+some list out e f r = written list out (rw is (omega (arith, sound-most (S (asLoop (madeOf (listAt list))) (made-built (listAt list) (read-doubles list 0 (length list / 8)) out none)))))
+  where
+    none : first (listFault (listAt list)) (needFault (length out) (openedCount (listAt list))) ≡ 0
+    none = unfold needFault in rw (f, le-ltb (length out) (loopSize (corners (openedCount (listAt list)))) r)
+
+    is : buildOutcome list out .number ≡ madeOf (listAt list) .header .count
+    is = unfold buildOutcome builtOutcome in rw (eq-eqb (length list % vecSize) 0 e, none)

@@ -10,10 +10,11 @@ use Rattle.loop_header.specs.declared.State.{State}
 use Rattle.loop_header.specs.declared.State.the-variants.{Empty, Full, Ring}
 use Rattle.loop_header.specs.declared.Header.{Header}
 use Rattle.loop_header.specs.Loops.{loopFault}
+use Rattle.loop_build.specs.Build.{listFault, openedCount}
 use Rattle.wire.specs.Wire.{vecSize, vecOf}
 use Rattle.bytes_loop.specs.Outcome.{refusalOf}
 use Rattle.bytes_loop.specs.Layout.{loopSize, headerAt, positionsAt, normalsAt, classesAt, frameFault, loopBytes}
-use Rattle.bytes_build.specs.Build.{buildOutcome}
+use Rattle.bytes_build.specs.Build.{corners, listAt, buildOutcome}
 use Rattle.bytes_ask.specs.declared.Question.the-variants.{Place, Vertex, OnEdge}
 use Rattle.bytes_ask.specs.Ask.{numberOf, askTold, convexTold, simpleTold}
 use Rattle.bytes_cut.specs.Cut.{triplesOf, trianglesOutcome}
@@ -59,6 +60,9 @@ pub record RoundTrip : Type 0 where
 
 -- SCOPE 33, 34, 40: the numbers that the functions on loops answer, for a query of 24 bytes that is fine, an output with room and triangle bytes in sixes
 pub record Returned : Type 0 where
+  -- every list that is not refused, with room for as many corners as it is judged by, makes one
+  pub build : (list out : List ℕ) → length list % vecSize ≡ 0 → listFault (listAt list) ≡ 0 → loopSize (corners (openedCount (listAt list))) ≤ length out
+      → Written (take (loopSize (buildOutcome list out .number)) (buildOutcome list out .out))
   pub round-trip : RoundTrip
   -- neither the bytes nor the loop in them are refused
   pub frame-fault : (s : List ℕ) → Written s → frameFault s ≡ 0

@@ -4,3 +4,4 @@ pub mod Loops
 pub mod Writes
 pub mod Numbers
 pub mod Theorem
+pub mod Sliced

@@ -94,7 +94,7 @@ module _ (h : Header) (r : List ℕ) where
         k .1 .clear,
       )
 
-  header-back : h .count < 65536 → KeptCap (h .cap) → KeptInsides (h .insides) → headerAt (headerBytes h ++ r) ≡ h
+  pub header-back : h .count < 65536 → KeptCap (h .cap) → KeptInsides (h .insides) → headerAt (headerBytes h ++ r) ≡ h
   header-back g c i =
       let m = marks-back (h .reversed) (h .weak) (areThere (h .insides)) in
       rw (count-back g, state-at, state-back (h .state), cap-back c, insides-by (h .insides) refl i, marks-at, m .reversed-is, m .weak-is)

@@ -7,7 +7,7 @@ use Rattle.loop_header.specs.declared.State.the-variants.{Empty, Full, Ring}
 use Rattle.loop_header.specs.declared.Header.{Header}
 use Rattle.loop_ask.specs.Answers.{Told, refused, answer}
 use Rattle.bytes_ask.specs.Ask.{numberOf}
-use Rattle.bytes_cut.specs.Cut.{triplesBy, triplesOf, toldOutcome}
+use Rattle.bytes_cut.specs.Cut.{triplesBy, toldOutcome}
 use Rattle.theorem_built.specs.Built as B
 use Rattle.theorem_built.specs.Built.{Answers, triangleCount}
 use Rattle.theorem_bytes.specs.Returned.{Cut, all, no-ear, Checked, Related, related, each-in-other}

@@ -11,11 +11,7 @@ use borrow.Author.Tests.{eq-eqb, le-ltb}
 use Rattle.vec3.specs.Vec.{cleared}
 use Rattle.judge.specs.Judge.{faultOf}
 use Rattle.minor_arc.proofs.Clears.{clear-once}
-use Rattle.loop_header.specs.declared.State.{State}
-use Rattle.loop_header.specs.declared.State.the-variants.{Empty, Full, Ring}
-use Rattle.loop_header.specs.declared.Header.{Header}
 use Rattle.loop_header.specs.Loops.{loopFault}
-use Rattle.loop_ask.specs.Answers.{Told}
 use Rattle.loop_triangles.specs.Triangles as T
 use Rattle.wire.specs.Wire.{vecSize, floatOf, vecOf, numbersAt}
 use Rattle.wire.proofs.Lays.{numbers-length}
@@ -24,15 +20,14 @@ use Rattle.bytes_loop.proofs.Faults.{right-size}
 use Rattle.bytes_ask.specs.declared.Question.{Question}
 use Rattle.bytes_ask.specs.declared.Question.the-variants.{Place, Vertex, OnEdge}
 use Rattle.bytes_ask.specs.Ask.{numberOf, toldAt, needsPosition, toldBy, askTold, convexTold, simpleTold}
-use Rattle.bytes_cut.specs.Cut.{triplesBy, triplesOf, toldOutcome, blank, roomFault, partsOutcome, trianglesOutcome}
+use Rattle.bytes_cut.specs.Cut.{triplesOf, blank, roomFault, partsOutcome, trianglesOutcome}
 use Rattle.bytes_check.specs.Checking.{sixesFault, acceptsTold}
 use Rattle.bytes_pair.specs.declared.Comparison.{Comparison}
 use Rattle.bytes_pair.specs.declared.Comparison.the-variants.{Relation, Equivalence}
 use Rattle.bytes_pair.specs.Pair.{toldOf, nextTold, pairTold}
-use Rattle.theorem_built.specs.Built as B
 use Rattle.theorem_built.specs.Built.{Loop, AsBuilt, Answers, triangleCount}
 use Rattle.theorem_built.proofs.Theorem.{built, uncut}
-use Rattle.theorem_bytes.specs.Returned.{bytesOf, loopAt, Written, Cut, all, no-ear, Checked, Related, related, each-in-other, Returned}
+use Rattle.theorem_bytes.specs.Returned.{bytesOf, loopAt, Written, Cut, Checked, Related, Returned}
 use Rattle.theorem_bytes.proofs.Numbers.{number, triples-same, cut-number, laid-number, check-number, pair-number}
 use Rattle.theorem_bytes.proofs.Writes.{same, framed, Read, read, some}
 

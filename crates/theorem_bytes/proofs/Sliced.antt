@@ -118,14 +118,14 @@ read _ (left l header ps ns cs d h) = left-read l header ps ns cs d (answered l 
 
 -- ---- the functions
 module _ (a : Parts) (w : Left a) where
-  abbrev L : Read a
-  L = read a w
+  abbrev found : Read a
+  found = read a w
 
   is-built : AsBuilt (loopIn a)
-  is-built = subst (λ (x : Loop). AsBuilt x) (sym (ap loopIn (L .parts) ∙ same (L .loop) (L .made))) (L .made)
+  is-built = subst (λ (x : Loop). AsBuilt x) (sym (ap loopIn (found .parts) ∙ same (found .loop) (found .made))) (found .made)
 
   frame : headerFault (a .header) ≡ 0
-  frame = ap (λ (x : Parts). headerFault (x .header)) (L .parts) ∙ headed (L .loop) (L .made)
+  frame = ap (λ (x : Parts). headerFault (x .header)) (found .parts) ∙ headed (found .loop) (found .made)
 
   fine : loopFault (headerAt (a .header)) (a .positions) (a .normals) (a .classes) ≡ 0
   fine = built .loop-fault (loopIn a) is-built

@@ -32,20 +32,20 @@ use Rattle.theorem_bytes.proofs.Numbers.{number, triples-same, cut-numb
 use Rattle.theorem_bytes.proofs.Writes.{same, framed, Read, read, some}
 
 module _ (s : List ℕ) (w : Written s) where
-  abbrev R : Read s
-  R = read s w
+  abbrev found : Read s
+  found = read s w
 
-  again : loopAt s ≡ R .loop
-  again = ap loopAt (R .bytes) ∙ same (R .loop) (R .built)
+  again : loopAt s ≡ found .loop
+  again = ap loopAt (found .bytes) ∙ same (found .loop) (found .built)
 
   as-built : AsBuilt (loopAt s)
-  as-built = subst (λ (a : Loop). AsBuilt a) (sym again) (R .built)
+  as-built = subst (λ (a : Loop). AsBuilt a) (sym again) (found .built)
 
   whole : s ≡ bytesOf (loopAt s)
-  whole = R .bytes ∙ ap bytesOf (sym again)
+  whole = found .bytes ∙ ap bytesOf (sym again)
 
   frame : frameFault s ≡ 0
-  frame = ap frameFault (R .bytes) ∙ framed (R .loop) (R .built)
+  frame = ap frameFault (found .bytes) ∙ framed (found .loop) (found .built)
 
   fine : loopFault (headerAt s) (positionsAt s) (normalsAt s) (classesAt s) ≡ 0
   fine = built .loop-fault (loopAt s) as-built

@@ -42,19 +42,19 @@ unfolding stateFault
 state-fine s t e = rw (e, le-ltb 2 (stateCode t) (state-small t))
 
 module _ (a : Loop) (b : AsBuilt a) where
-  abbrev S : Sound (a .header) (a .positions) (a .normals) (a .classes)
-  S = sound (a .header) (a .positions) (a .normals) (a .classes) (whole a b)
+  abbrev known : Sound (a .header) (a .positions) (a .normals) (a .classes)
+  known = sound (a .header) (a .positions) (a .normals) (a .classes) (whole a b)
 
   pub same : loopAt (bytesOf a) ≡ a
-  same = loop-same a (kept a b) (sound-most S) (sound-positions S) (S .normals)
+  same = loop-same a (kept a b) (sound-most known) (sound-positions known) (known .normals)
 
   width : length (bytesOf a) ≡ loopSize (a .header .count)
-  width = loop-width a (kept a b) (sound-most S) (sound-positions S) (S .normals) (sound-classes S)
+  width = loop-width a (kept a b) (sound-most known) (sound-positions known) (known .normals) (sound-classes known)
 
   pub framed : frameFault (bytesOf a) ≡ 0
   framed =
-      let c = count-same a (kept a b) (sound-most S) (sound-positions S) (S .normals) in
-      let t = state-code a (kept a b) (sound-most S) (sound-positions S) (S .normals) in
+      let c = count-same a (kept a b) (sound-most known) (sound-positions known) (known .normals) in
+      let t = state-code a (kept a b) (sound-most known) (sound-positions known) (known .normals) in
       sym (frame-state (bytesOf a) (rw c width) (sym (state-fine (bytesOf a) (a .header .state) t)))
 
 -- ---- what was made of a list
@@ -132,7 +132,7 @@ read _ (written list out h) =
 
 pub some : (list out : List ℕ) → length list % vecSize ≡ 0 → listFault (listAt list) ≡ 0 → loopSize (corners (openedCount (listAt list))) ≤ length out
     → Written (take (loopSize (buildOutcome list out .number)) (buildOutcome list out .out))
-some list out e f r = written list out (rw is (omega (arith, sound-most (S (asLoop (madeOf (listAt list))) (made-built (listAt list) (read-doubles list 0 (length list / 8)) out none)))))
+some list out e f r = written list out (rw is (omega (arith, sound-most (known (asLoop (madeOf (listAt list))) (made-built (listAt list) (read-doubles list 0 (length list / 8)) out none)))))
   where
     none : first (listFault (listAt list)) (needFault (length out) (openedCount (listAt list))) ≡ 0
     none = unfold needFault in rw (f, le-ltb (length out) (loopSize (corners (openedCount (listAt list)))) r)

@@ -58,7 +58,8 @@ pub record RoundTrip : Type 0 where
   pub as-built : (s : List ℕ) → Written s → AsBuilt (loopAt s)
   pub whole : (s : List ℕ) → Written s → s ≡ bytesOf (loopAt s)
 
--- SCOPE 33, 34, 40: the numbers that the functions on loops answer, for a query of 24 bytes that is fine, an output with room and triangle bytes in sixes
+-- SCOPE 33, 34, 40: the number that each function on loops answers, where all from 65,536 on are refusals: for a query of 24 bytes that is fine, an output with
+-- room and triangle bytes in sixes
 pub record Returned : Type 0 where
   -- every list that is not refused, with room for as many corners as it is judged by, makes one
   pub build : (list out : List ℕ) → length list % vecSize ≡ 0 → listFault (listAt list) ≡ 0 → loopSize (corners (openedCount (listAt list))) ≤ length out

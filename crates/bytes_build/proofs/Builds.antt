@@ -56,12 +56,12 @@ module _ (l : List Float) (n : ℕ) where
   same-header false t ps ns cs = refl
 
   module _ (ps ns : List Float) (cs : List ℕ) where
-    header-is : (b : Bool) → B.outcomeIf b l n ps ns cs .answer ≡ B.loop (madeIf b l n .header)
+    pub header-is : (b : Bool) → B.outcomeIf b l n ps ns cs .answer ≡ B.loop (madeIf b l n .header)
     unfolding B.made
     header-is true = refl
     header-is false = ap B.loop (same-header (allBoth (classesOf l n (reversal l n))) (reversal l n) ps ns cs)
 
-    front-is : (b : Bool) → let x = B.outcomeIf b l n ps ns cs in front (madeIf b l n .header) (x .positions) (x .normals) (x .classes) ≡ madeIf b l n
+    pub front-is : (b : Bool) → let x = B.outcomeIf b l n ps ns cs in front (madeIf b l n .header) (x .positions) (x .normals) (x .classes) ≡ madeIf b l n
     unfolding B.made
     front-is true = refl
     front-is false = rw (← same-header (allBoth (classesOf l n (reversal l n))) (reversal l n) ps ns cs) (front-made (allBoth (classesOf l n (reversal l n))) (reversal l n) ps ns cs)
@@ -70,7 +70,7 @@ module _ (l : List Float) (n : ℕ) where
   count-is true e h = refl
   count-is false e h = absurd (h (ltb-false n 3 e))
 
-  count-most : (b : Bool) → madeIf b l n .header .count ≤ n
+  pub count-most : (b : Bool) → madeIf b l n .header .count ≤ n
   unfolding B.made
   count-most true = omega arith
   count-most false = made-count (allBoth (classesOf l n (reversal l n))) (reversal l n)

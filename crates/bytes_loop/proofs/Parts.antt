@@ -39,7 +39,7 @@ module _ (s : List ℕ) where
   classes-length h = rw length-drop (omega arith)
 
 -- ---- four stores in a row
-header-width : (h : Header) → length (headerBytes h) ≡ headerSize
+pub header-width : (h : Header) → length (headerBytes h) ≡ headerSize
 unfolding headerBytes
 header-width h = simp (length-append, eight)
 

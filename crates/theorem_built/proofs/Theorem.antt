@@ -112,7 +112,7 @@ module _ (h : Header) (ps ns : List Float) (cs : List ℕ) (f : loopFault h ps n
       let b = first-zero w (first (ringFault h ps cs) (vectorsFault h ns)) (a .1) in
       (a .0, first-zero (ringFault h ps cs) (vectorsFault h ns) (b .1) .0)
 
-  uncut : cutFault h ps cs ≡ 0
+  pub uncut : cutFault h ps cs ≡ 0
   unfolding cutFault
   uncut = first-fine (shapeFault h ps cs) (ringFault h ps cs) (parts .0) (parts .1)
 

@@ -27,6 +27,16 @@ use Rattle.theorem_built.proofs.Normals.{normals-fine}
 use Rattle.theorem_built.proofs.Caps.{bounded-fine, cap-bounded}
 use Rattle.theorem_built.proofs.Insides.{insides-fine}
 
+-- ---- the three kinds
+abbrev pub emptyLoop : Loop
+emptyLoop = record { header = emptyHeader; positions = []; normals = []; classes = [] }
+
+abbrev pub fullLoop : Bool → Loop
+fullLoop weak = record { header = fullHeader weak; positions = []; normals = []; classes = [] }
+
+abbrev pub ringLoop : List Float → ℕ → Bool → Loop
+ringLoop l n reversed = record { header = ringHeader l n reversed; positions = ringOf l n reversed; normals = normalsOf l n reversed; classes = classesOf l n reversed }
+
 -- ---- a ring
 module _ (l : List Float) (d : Doubles l) (f : listFault l ≡ 0) (reversed : Bool) (n : ℕ) (o : n ≡ openedCount l) (least : 3 ≤ n) where
   known : Listed l
@@ -38,7 +48,7 @@ module _ (l : List Float) (d : Doubles l) (f : listFault l ≡ 0) (reversed : Bo
   corners : Fine (ringOf l n reversed) n
   corners = fine-of (ringOf l n reversed) n n (omega arith) (positions-fine l d f reversed n o)
 
-  ring : Ring (ringOf l n reversed) (classesOf l n reversed)
+  pub ring : Ring (ringOf l n reversed) (classesOf l n reversed)
   ring =
       let s = size (cornerAt l n reversed) n in
       let q = codes-count l n reversed in
@@ -75,27 +85,33 @@ full-fine weak = refl
 same : {a b : Header} → B.loop a ≡ B.loop b → a ≡ b
 same e = cc
 
-module _ (l : List Float) (d : Doubles l) {h : Header} where
-  of-made : (both reversed : Bool) (n : ℕ) → n ≡ openedCount l → 3 ≤ n → listFault l ≡ 0 → (ps ns : List Float) (cs : List ℕ)
-      → B.loop (madeIf both l n reversed ps ns cs .header) ≡ B.loop h → ask loopFault (handedBack h (outcomeOf (madeIf both l n reversed ps ns cs))) ≡ 0
-  unfolding ringHeader
-  of-made true reversed n o g f ps ns cs e = rw (← same e) (full-fine _)
-  of-made false reversed n o g f ps ns cs e =
-      let p = take-at (ringOf l n reversed) (drop (3 * n) ps) (3 * n) (size (cornerAt l n reversed) n) in
-      let m = take-at (normalsOf l n reversed) (drop (3 * n) ns) (3 * n) (size (normalAt l n reversed) n) in
-      let c = take-at (classesOf l n reversed) (drop n cs) n (codes-count l n reversed) in
-      rw (← same e, p, m, c) (ring-fine l d f reversed n o g)
+-- what holds of the empty loop, the full ones and each ring that a list makes holds of each loop as built
+module _ (P : Loop → Type 0) (on-empty : P emptyLoop) (on-full : (weak : Bool) → P (fullLoop weak))
+    (on-ring : (l : List Float) → Doubles l → listFault l ≡ 0 → (reversed : Bool) (n : ℕ) → n ≡ openedCount l → 3 ≤ n → P (ringLoop l n reversed)) where
+  module _ (l : List Float) (d : Doubles l) {h : Header} where
+    of-made : (both reversed : Bool) (n : ℕ) → n ≡ openedCount l → 3 ≤ n → listFault l ≡ 0 → (ps ns : List Float) (cs : List ℕ)
+        → B.loop (madeIf both l n reversed ps ns cs .header) ≡ B.loop h → P (handedBack h (outcomeOf (madeIf both l n reversed ps ns cs)))
+    unfolding ringHeader
+    of-made true reversed n o g f ps ns cs e = rw (← same e) (on-full _)
+    of-made false reversed n o g f ps ns cs e =
+        let p = take-at (ringOf l n reversed) (drop (3 * n) ps) (3 * n) (size (cornerAt l n reversed) n) in
+        let m = take-at (normalsOf l n reversed) (drop (3 * n) ns) (3 * n) (size (normalAt l n reversed) n) in
+        let c = take-at (classesOf l n reversed) (drop n cs) n (codes-count l n reversed) in
+        rw (← same e, p, m, c) (on-ring l d f reversed n o g)
 
-  of-count : (few : Bool) (n : ℕ) → ltb n 3 ≡ few → n ≡ openedCount l → listFault l ≡ 0 → (ps ns : List Float) (cs : List ℕ)
-      → outcomeIf few l n ps ns cs .answer ≡ B.loop h → ask loopFault (handedBack h (outcomeIf few l n ps ns cs)) ≡ 0
-  unfolding made
-  of-count true n t o f ps ns cs e = rw (← same e) empty-fine
-  of-count false n t o f ps ns cs e = of-made (allBoth (classesOf l n (reversal l n))) (reversal l n) n o (ltb-false _ _ t) f ps ns cs e
+    of-count : (few : Bool) (n : ℕ) → ltb n 3 ≡ few → n ≡ openedCount l → listFault l ≡ 0 → (ps ns : List Float) (cs : List ℕ)
+        → outcomeIf few l n ps ns cs .answer ≡ B.loop h → P (handedBack h (outcomeIf few l n ps ns cs))
+    unfolding made
+    of-count true n t o f ps ns cs e = rw (← same e) on-empty
+    of-count false n t o f ps ns cs e = of-made (allBoth (classesOf l n (reversal l n))) (reversal l n) n o (ltb-false _ _ t) f ps ns cs e
 
-  of-refusal : (k : ℕ) (ps ns : List Float) (cs : List ℕ) → refusal l ps ns cs ≡ k
-      → outcomeBy k l ps ns cs .answer ≡ B.loop h → ask loopFault (handedBack h (outcomeBy k l ps ns cs)) ≡ 0
-  of-refusal zero ps ns cs z e = of-count (ltb (openedCount l) 3) (openedCount l) refl refl (fine l ps ns cs z .0) ps ns cs e
-  of-refusal (suc k) ps ns cs z e = absurd (let x : _≡_ {A = ℕ} 0 1 = cc in omega arith)
+    of-refusal : (k : ℕ) (ps ns : List Float) (cs : List ℕ) → refusal l ps ns cs ≡ k
+        → outcomeBy k l ps ns cs .answer ≡ B.loop h → P (handedBack h (outcomeBy k l ps ns cs))
+    of-refusal zero ps ns cs z e = of-count (ltb (openedCount l) 3) (openedCount l) refl refl (fine l ps ns cs z .0) ps ns cs e
+    of-refusal (suc k) ps ns cs z e = absurd (let x : _≡_ {A = ℕ} 0 1 = cc in omega arith)
+
+  pub of-three : (a : Loop) → AsBuilt a → P a
+  of-three _ (as-built l ps ns cs h d e) = unfold buildOutcome in of-refusal l d (refusal l ps ns cs) ps ns cs refl e
 
 some-loop : (few : Bool) (l : List Float) (n : ℕ) (ps ns : List Float) (cs : List ℕ) → (h : Header) × (outcomeIf few l n ps ns cs .answer ≡ B.loop h)
 some-loop true l n ps ns cs = (emptyHeader, refl)
@@ -108,4 +124,4 @@ some l ps ns cs d z =
     (s .0, as-built l ps ns cs (s .0) d e)
 
 pub whole : (a : Loop) → AsBuilt a → ask loopFault a ≡ 0
-whole _ (as-built l ps ns cs h d e) = unfold buildOutcome in of-refusal l d (refusal l ps ns cs) ps ns cs refl e
+whole = of-three (λ a. ask loopFault a ≡ 0) empty-fine full-fine (λ l d f reversed n o g. ring-fine l d f reversed n o g)

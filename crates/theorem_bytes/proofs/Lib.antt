@@ -1,0 +1,7 @@
+pub mod Floats
+pub mod Kept
+pub mod Loops
+pub mod Writes
+pub mod Numbers
+pub mod Theorem
+pub mod Sliced

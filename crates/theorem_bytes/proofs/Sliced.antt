@@ -1,0 +1,160 @@
+-- What `desk_build_f64` filled is a loop as built, and is refused by 8 and 7 alone: the statement of specs/Slices.antt. Assumes nothing.
+use Prim.Native.Nat.{ℕ, zero, suc, _*_, _≤_, _<_}
+use mathlib.Core.Path.{_≡_, refl, sym, ap, _∙_, subst}
+use mathlib.Core.Bool.{Bool}
+use mathlib.Core.List.{List, [], append-nil}
+use native.Mathlib.Omega.{arith}
+use lib.ListN.{length}
+use lib.Seq.{sets-eq, take-at}
+use lib.Dec.{ltb}
+use lib.Ieee.{Float}
+use borrow.Author.Tests.{ltb-false}
+use Rattle.laws.specs.Loop.{first}
+use Rattle.laws.proofs.Firsts.{first-zero, first-fine, test-none}
+use Rattle.vec3.specs.declared.Vec3.{Vec3}
+use Rattle.vec3.specs.Vec.{cleared}
+use Rattle.judge.specs.Judge.{faultOf}
+use Rattle.loop_header.specs.declared.Header.{Header}
+use Rattle.loop_header.specs.Loops.{loopFault}
+use Rattle.loop_header.proofs.Sounds.{sound, sound-most}
+use Rattle.loop_build.specs.Build as B
+use Rattle.loop_build.specs.Build.{Doubles, openedCount, refusal}
+use Rattle.loop_triangles.specs.Triangles as T
+use Rattle.bytes_loop.specs.Layout.{headerSize, headerAt, headerFault, headerBytes}
+use Rattle.bytes_loop.proofs.Faults.{header-state}
+use Rattle.bytes_loop.proofs.Parts.{header-width}
+use Rattle.bytes_build.specs.Build.{madeIf, corners, needFault, outOutcome, floatsOutcome}
+use Rattle.bytes_build.proofs.Builds.{header-is}
+use Rattle.bytes_build.proofs.Rooms.{need-none}
+use Rattle.bytes_ask.specs.Ask.{numberOf, placeTold}
+use Rattle.bytes_cut.specs.Cut as C
+use Rattle.bytes_pair.specs.declared.Comparison.the-variants.{Relation}
+use Rattle.bytes_pair.specs.Pair.{toldOf, nextTold, floatsTold}
+use Rattle.theorem_built.specs.Built.{Loop, handedBack, AsBuilt, as-built}
+use Rattle.theorem_built.proofs.Whole.{whole}
+use Rattle.theorem_built.proofs.Theorem.{built}
+use Rattle.theorem_bytes.specs.Returned as R
+use Rattle.theorem_bytes.specs.Slices.{Parts, loopIn, partsOf, Filled, filled, Slices}
+use Rattle.theorem_bytes.proofs.Kept.{kept}
+use Rattle.theorem_bytes.proofs.Loops.{state-at, header-back}
+use Rattle.theorem_bytes.proofs.Writes.{state-fine}
+use Rattle.theorem_bytes.proofs.Numbers.{number, triples-same, cut-number, pair-number}
+
+-- ---- a loop with its header in bytes
+abbrev inParts : Loop → Parts
+inParts a = record { header = headerBytes (a .header); positions = a .positions; normals = a .normals; classes = a .classes }
+
+module _ (a : Loop) (b : AsBuilt a) where
+  header-same : headerAt (headerBytes (a .header)) ≡ a .header
+  header-same =
+      let m = sound-most (sound (a .header) (a .positions) (a .normals) (a .classes) (whole a b)) in
+      rw append-nil at (header-back (a .header) [] (omega (arith, m)) (kept a b .cap) (kept a b .insides))
+
+  same : loopIn (inParts a) ≡ a
+  same = rw header-same
+
+  headed : headerFault (headerBytes (a .header)) ≡ 0
+  headed =
+      let t = rw append-nil at (state-at (a .header) []) in
+      sym (header-state (headerBytes (a .header)) (header-width (a .header)) (sym (state-fine (headerBytes (a .header)) (a .header .state) t)))
+
+-- ---- what was filled
+record Read (a : Parts) : Type 0 where
+  loop : Loop
+  made : AsBuilt loop
+  parts : a ≡ inParts loop
+
+module _ (l : List Float) (header : List ℕ) (ps ns : List Float) (cs : List ℕ) where
+  answered : (k : ℕ) → outOutcome (B.outcomeBy k l ps ns cs) header .number < 65536 → k ≡ 0
+  answered zero h = refl
+  answered (suc k) h = absurd (omega arith)
+
+  -- of an outcome of building, by its header
+  written : (o : B.Outcome) (h : Header) → o .answer ≡ B.loop h → headerSize ≤ length header → partsOf (outOutcome o header) ≡ inParts (handedBack h o)
+  written o h e r =
+      let w = header-width h in
+      rw (e, sets-eq (headerBytes h) header 0 (omega arith), take-at (headerBytes h) _ headerSize w)
+
+  roomy : needFault (length header) 0 ≡ 0 → headerSize ≤ length header
+  unfolding needFault corners
+  roomy z = ltb-false _ _ (test-none _ _ z)
+
+  module _ (d : Doubles l) (z : first (refusal l ps ns cs) (needFault (length header) 0) ≡ 0) where
+    abbrev few : Bool
+    few = ltb (openedCount l) 3
+
+    abbrev made-header : Header
+    made-header = madeIf few l (openedCount l) .header
+
+    unrefused : refusal l ps ns cs ≡ 0
+    unrefused = first-zero (refusal l ps ns cs) (needFault (length header) 0) z .0
+
+    answer : B.buildOutcome l ps ns cs .answer ≡ B.loop made-header
+    unfolding B.buildOutcome
+    answer = rw unrefused (header-is l (openedCount l) ps ns cs few)
+
+    outcome : floatsOutcome l header ps ns cs ≡ outOutcome (B.buildOutcome l ps ns cs) header
+    unfolding floatsOutcome B.buildOutcome
+    outcome = rw (z, unrefused)
+
+    filled-read : Read (partsOf (floatsOutcome l header ps ns cs))
+    filled-read = record {
+      loop = handedBack made-header (B.buildOutcome l ps ns cs);
+      made = as-built l ps ns cs made-header d answer;
+      parts = ap partsOf outcome ∙ written (B.buildOutcome l ps ns cs) made-header answer (roomy (first-zero (refusal l ps ns cs) (needFault (length header) 0) z .1));
+    }
+
+    small : floatsOutcome l header ps ns cs .number < 65536
+    small =
+        let a = handedBack made-header (B.buildOutcome l ps ns cs) in
+        let m = sound-most (sound (a .header) (a .positions) (a .normals) (a .classes) (whole a (as-built l ps ns cs made-header d answer))) in
+        rw (outcome, answer) (omega (arith, m))
+
+pub some : (l : List Float) (header : List ℕ) (ps ns : List Float) (cs : List ℕ) → Doubles l → refusal l ps ns cs ≡ 0 → headerSize ≤ length header → Filled (partsOf (floatsOutcome l header ps ns cs))
+some l header ps ns cs d z r = filled l header ps ns cs d (small l header ps ns cs d (first-fine (refusal l ps ns cs) (needFault (length header) 0) z (need-none (length header) 0 r (λ h. absurd (omega arith)))))
+
+read : (a : Parts) → Filled a → Read a
+read _ (filled l header ps ns cs d h) = filled-read l header ps ns cs d (answered l header ps ns cs _ (unfold floatsOutcome in h))
+
+-- ---- the functions
+module _ (a : Parts) (w : Filled a) where
+  abbrev found : Read a
+  found = read a w
+
+  is-built : AsBuilt (loopIn a)
+  is-built = subst (λ (x : Loop). AsBuilt x) (sym (ap loopIn (found .parts) ∙ same (found .loop) (found .made))) (found .made)
+
+  frame : headerFault (a .header) ≡ 0
+  frame = ap (λ (x : Parts). headerFault (x .header)) (found .parts) ∙ headed (found .loop) (found .made)
+
+  fine : loopFault (headerAt (a .header)) (a .positions) (a .normals) (a .classes) ≡ 0
+  fine = built .loop-fault (loopIn a) is-built
+
+  place : (p : Vec3) → faultOf (cleared p) ≡ 0 → numberOf (placeTold (a .header) (a .positions) (a .normals) (a .classes) p) ≤ 2
+  place p f = rw frame (number 2 _ (built .contains-position (loopIn a) is-built p f))
+
+  triangles : (out : List ℕ) → 3 * C.triplesOf (headerAt (a .header)) ≤ length out → R.Cut (headerAt (a .header)) (C.floatsOutcome (a .header) (a .positions) (a .classes) out .number)
+  unfolding C.floatsOutcome
+  triangles out r =
+      let h = headerAt (a .header) in
+      rw frame (cut-number h (T.triangulateOutcome h (a .positions) (a .classes) out .answer) (built .triangulate (loopIn a) is-built out (rw triples-same at r)))
+
+module _ (a b : Parts) (w : Filled a) (v : Filled b) where
+  pair-told : floatsTold (a .header) (a .positions) (a .normals) (a .classes) (b .header) (b .positions) (b .normals) (b .classes)
+      ≡ toldOf Relation (headerAt (a .header)) (a .positions) (a .normals) (a .classes) (headerAt (b .header)) (b .positions) (b .normals) (b .classes)
+  unfolding nextTold
+  pair-told = rw (frame a w, fine a w, frame b v)
+
+  pair : R.Related (headerAt (a .header)) (headerAt (b .header)) (numberOf (floatsTold (a .header) (a .positions) (a .normals) (a .classes) (b .header) (b .positions) (b .normals) (b .classes)))
+  pair = rw pair-told (pair-number (headerAt (a .header)) (headerAt (b .header)) _ (built .relate (loopIn a) (loopIn b) (is-built a w) (is-built b v)))
+
+pub sliced : Slices
+sliced = record {
+  build = some;
+  as-built = is-built;
+  header-fault = frame;
+  loop-fault = fine;
+  desk-place-f64 = place;
+  desk-triangles-f64 = triangles;
+  desk-pair-f64 = pair;
+}

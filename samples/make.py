@@ -73,6 +73,8 @@ scenes = [
      + join(place(n, p) for n in (7, 8, 10, 11, 12, 13, 65535) for p in (Z, W, unit(1, 0.1, 0.1)))),
     ('mute rings, and rings that cannot be cut', join(area(k + 1, l) for k, l in enumerate(MUTES))
      + join(place(k + 1, p) for k in range(len(MUTES)) for p in (unit(1, 2, 3), unit(-3, 1, -2)))),
+    ('mute areas to others, and others to them', area(1, MUTES[0]) + area(2, [X, X, Z, W]) + area(3, FULL) + area(4, []) + area(5, [X, Y, Z])
+     + join(pair(a, b) + pair(b, a) for a in (1, 2) for b in (3, 4, 5)) + pair(1, 1) + pair(1, 2)),
     ('relations, each area with each', area(1, round_pole(8, 0.5)) + area(2, round_pole(8, 0.2)) + area(3, round_pole(8, 0.5)[::-1])
      + area(4, round_pole(5, 0.5, -1)) + area(5, BESIDE) + area(6, [X, Y, Z]) + area(7, [X, Y, W]) + area(8, []) + area(9, FULL)
      + join(pair(a, b) for a in range(1, 10) for b in range(1, 10))),

@@ -28,9 +28,10 @@
       88+24n  n normals, 24 bytes each: the i-th is that of the edge from corner i to the next, counted round
       88+48n  n classes, a byte each: DESK_CLASS_..
    A ring of more than three corners without insides is MUTE: it cannot tell what lies in it. That is not "outside".
-   What desk_build or desk_build_f64 wrote, handed back as it is, is refused by no call for what it is: with room and a
-   position that is fine, desk_triangles refuses it with DESK_REFUSED_NO_EAR alone, desk_pair with
-   DESK_REFUSED_BOTH_WAYS, desk_accepts, of empty and full, with DESK_REFUSED_NO_RING.
+   What desk_build or desk_build_f64 wrote, as many bytes or elements of it as a loop of the count it answered has,
+   handed back as it is, is refused by no call for what it is. With room, a position that is fine and triangles in
+   sixes of bytes there is no other refusal than DESK_REFUSED_NO_EAR of desk_triangles, DESK_REFUSED_BOTH_WAYS of
+   desk_pair, and DESK_REFUSED_NO_RING of desk_accepts, for empty and full.
    The functions whose names end in _f64 take the same loop in parts: the 88 bytes of the header, 3n doubles of
    positions, 3n of normals, n classes. An ARC is 72 bytes: start, end, normal. A TRIANGLE is three uint16_t, numbers of
    the ring's corners counted from 0; those of a full loop number the 12 positions of desk_full_positions. */

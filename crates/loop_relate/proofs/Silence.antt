@@ -27,6 +27,7 @@ use Rattle.loop_ask.specs.Places.{clearedCap, placeWithout, placeBy, placeOf}
 use Rattle.loop_ask.specs.Questions.{fullState, pairFault, equivalentLoops}
 use Rattle.loop_ask.proofs.Silence.{code-mute, mute-code}
 use Rattle.loop_relate.specs.Relations.{isInside, placedInside, probeInside, liesIn, byEdges, byCaps, byStates, relateAnswer, searched, midpointFor, neededMidpoint}
+use Rattle.loop_relate.proofs.Searches.{searched-says, unsearched-says}
 use Rattle.loop_relate.proofs.Sevens.{seven-only}
 use Rattle.loop_relate.proofs.Ways.{code, Way, refusal, equal, full, caps-apart, crossing, points, way}
 use Rattle.loop_relate.specs.Silence.{Unfound, nowhere, corner-outside, middle-outside, untold, Apart, caps, edges, marked, Silence}
@@ -208,6 +209,8 @@ silence h ps ns cs o qs ms ds = record {
   containing-says = λ e. containing-by h ps ns cs o qs ms ds _ (way h ps ns cs o qs ms ds) e;
   seven-says = seven-by h ps ns cs o qs ms ds;
   marks-unread = unread h ps ns cs o qs ms ds;
+  searched-says = searched-says h ps ns cs o qs ms ds;
+  unsearched-says = unsearched-says h ps ns cs o qs ms ds;
   no-midpoint = λ e s p.
       let n = either-none (searched h ps ns cs o qs ms ds) _ _ e s in
       ((λ q. false≢true (sym (n .0) ∙ middle-needed ps (h .count) qs ms (o .count) p q)), (λ q. false≢true (sym (n .1) ∙ middle-needed qs (o .count) ps ns (h .count) p q)));

@@ -12,9 +12,10 @@ use Rattle.loop_header.specs.Loops.{mute}
 use Rattle.ring_pair.specs.declared.Probe.the-variants.{Nowhere, Corner, Middle}
 use Rattle.ring_pair.specs.Contacts.{isCrossed, isTouched, contactOf}
 use Rattle.ring_pair.specs.Probes.{unambiguousPoint}
-use Rattle.loop_ask.specs.Answers.{refused, answer}
+use Rattle.loop_ask.specs.Answers.{Told, refused, answer}
 use Rattle.loop_ask.specs.Places.{clearedCap, placeOf}
-use Rattle.loop_relate.specs.Relations.{liesIn, searched, neededMidpoint, relateAnswer}
+use Rattle.loop_ask.specs.Questions.{pairFault}
+use Rattle.loop_relate.specs.Relations.{liesIn, byContainment, searched, neededMidpoint, relateAnswer}
 
 -- why a first loop is not found in a second
 pub data Unfound (h : Header) (ps : List Float) (o : Header) (qs ms : List Float) : Type 0 where
@@ -32,6 +33,13 @@ pub data Apart (h : Header) (ps ns : List Float) (o : Header) (qs ms : List Floa
   edges : isCrossed (contactOf ps ns (h .count) qs ms (o .count)) ≡ false → isTouched (contactOf ps ns (h .count) qs ms (o .count)) ≡ false
       → Unfound h ps o qs ms → Unfound o qs h ps ns → Apart h ps ns o qs ms
 
+-- SCOPE 24: decided before any point is searched, by states, caps, equality or crossings
+pub data Decided : Told → Type 0 where
+  equal : Decided (answer 5)
+  full-contains : Decided (answer 3)
+  caps-apart : Decided (answer 0)
+  crossing : Decided (answer 2)
+
 -- a header with other marks
 abbrev pub marked : Bool → Bool → Header → Header
 marked r w h = record { count = h .count; state = h .state; cap = h .cap; insides = h .insides; reversed = r; weak = w }
@@ -47,6 +55,10 @@ module _ (h : Header) (ps ns : List Float) (cs : List ℕ) (o : Header) (qs ms :
     pub seven-says : relateAnswer h ps ns cs o qs ms ds ≡ refused 7 → (mute h ≡ false) × (mute o ≡ false)
     -- no mark is read: of a weak loop the answer is that of the same loop marked steady, and does not tell that its direction hangs on rounding
     pub marks-unread : (r w r′ w′ : Bool) → relateAnswer (marked r w h) ps ns cs (marked r′ w′ o) qs ms ds ≡ relateAnswer h ps ns cs o qs ms ds
-    -- SCOPE 10: where no midpoint was needed and points were searched, neither point that was found is a midpoint
+    -- SCOPE 10: a pair that is not refused is searched exactly where the points found decide: each loop in the other or not, and whether edges touch
+    pub searched-says : pairFault h ps ns cs o qs ms ds ≡ 0 → searched h ps ns cs o qs ms ds ≡ true
+        → relateAnswer h ps ns cs o qs ms ds ≡ byContainment (isTouched (contactOf ps ns (h .count) qs ms (o .count))) (liesIn h ps o qs ms) (liesIn o qs h ps ns)
+    pub unsearched-says : pairFault h ps ns cs o qs ms ds ≡ 0 → searched h ps ns cs o qs ms ds ≡ false → Decided (relateAnswer h ps ns cs o qs ms ds)
+    -- where no midpoint was needed and points were searched, neither point that was found is a midpoint
     pub no-midpoint : neededMidpoint h ps ns cs o qs ms ds ≡ false → searched h ps ns cs o qs ms ds ≡ true → (p : Vec3)
         → (unambiguousPoint ps (h .count) qs ms (o .count) ≡ Middle p → ⊥) × (unambiguousPoint qs (o .count) ps ns (h .count) ≡ Middle p → ⊥)

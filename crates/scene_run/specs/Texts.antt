@@ -1,4 +1,5 @@
--- SCOPE 30: a scene's text is whole lines, of which the last alone is `end` or `refused`, and every decimal in them is right. Definitions and statements only.
+-- SCOPE 30: a scene's text is whole lines, of which the last alone is `end` or `refused`, and every decimal in them is right. Proved in proofs/Texts.antt.
+-- Definitions only.
 use Prim.Native.Nat.{ℕ, _<_}
 use mathlib.Core.Path.{_≡_}
 use mathlib.Core.Bool.{Bool, true, false}

@@ -1,4 +1,5 @@
--- SCOPE 30: what it is for bytes to be a number in decimal, and that the numbers of a scene's lines are. Definitions and statements only.
+-- SCOPE 30: what it is for bytes to be a number in decimal, and that the numbers of a scene's lines are. Proved in
+-- proofs/Decimals.antt. Definitions only.
 use Prim.Native.Nat.{ℕ, _+_, _-_, _*_, _≤_, _<_}
 use mathlib.Core.Path.{_≡_}
 use mathlib.Core.List.{List, [], _∷_}

@@ -50,12 +50,12 @@ ten = ofBits binary64 0x4024_0000_0000_0000
 abbrev pub just-within : Float
 just-within = ofBits binary64 0x3ff0_0000_0000_0800
 
+abbrev pub tiny : Float
+tiny = ofBits binary64 0x1a70_0000_0000_0000
+
 -- 0.96
 abbrev pub high : Float
 high = ofBits binary64 0x3fee_b851_eb85_1eb8
-
-abbrev pub tiny : Float
-tiny = ofBits binary64 0x1a70_0000_0000_0000
 
 -- the worked example's area 2, which has the edge from X to Y with area 1: X, Y, -Z
 abbrev pub area-2 : List Float

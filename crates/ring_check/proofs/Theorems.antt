@@ -10,11 +10,10 @@ use lib.Dec.{eqb}
 use borrow.Author.Tests.{eq-eqb}
 use Rattle.ring_theory.specs.Ring.{numbers}
 use Rattle.ring_theory.proofs.Theorem.{counted, demand-3}
-use Rattle.ring_theory.proofs.Indexes.{Increasing}
+use Rattle.ring_theory.proofs.Numbers.{size, increasing}
 use Rattle.ring_cut.specs.Cut.{wholeRing, cuttingOf}
 use Rattle.ring_cut.specs.Accepted.{CutBy, Eligible, Lowest}
 use Rattle.ring_cut.proofs.Relations.{cuts, weaken, at-lowest}
-use Rattle.ring_cut.proofs.Wholes.{size, getD-numbers}
 use Rattle.ring_check.specs.Accepted.{accepted}
 use Rattle.ring_check.specs.Demand.{Demand}
 use Rattle.ring_check.proofs.Followings.{both}
@@ -28,11 +27,6 @@ module _ (ps : List Float) (classes : List ℕ) (three : 3 ≤ length classes) w
   left-over : n ≡ n - 3 + 3
   left-over = omega (arith, size (length classes))
 
-  increasing : Increasing (numbers (length classes))
-  increasing j k h l =
-      let m : k < length classes = omega (arith, size (length classes)) in
-      rw (getD-numbers (length classes) 0 j (omega arith), getD-numbers (length classes) 0 k m) (omega arith)
-
   only-ears : (tris : List ℕ) → accepted ps classes tris ≡ true → CutBy ps (Eligible ps) (wholeRing classes) tris
   unfolding accepted
   only-ears tris e = sound ps (n - 3) (wholeRing classes) tris left-over (both (eqb (length tris) (3 * (length classes - 2))) _ e .1)
@@ -41,7 +35,7 @@ module _ (ps : List Float) (classes : List ℕ) (three : 3 ≤ length classes) w
   unfolding accepted
   all-ears tris c =
       let k : length tris ≡ 3 * (length classes - 2) = counted (cuts c) ∙ rw (size (length classes)) in
-      rw (eq-eqb (length tris) (3 * (length classes - 2)) k) (complete c increasing (n - 3) left-over)
+      rw (eq-eqb (length tris) (3 * (length classes - 2)) k) (complete c (increasing (length classes)) (n - 3) left-over)
 
   lowest : cuttingOf ps classes .stuck ≡ false → CutBy ps (Lowest ps) (wholeRing classes) (cuttingOf ps classes .triangles)
   lowest e = at-lowest ps (n - 3) (wholeRing classes) left-over e

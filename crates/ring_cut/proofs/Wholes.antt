@@ -1,34 +1,21 @@
 -- A whole ring: what cutting it begins with, and what it leaves in the output. Assumes nothing.
-use Prim.Native.Nat.{ℕ, zero, suc, _+_, _-_, _*_, _≤_, _<_}
-use mathlib.Core.Path.{_≡_, refl, sym, ap, _∙_}
+use Prim.Native.Nat.{ℕ, _-_, _*_, _≤_}
+use mathlib.Core.Path.{_≡_, sym, ap, _∙_}
 use mathlib.Core.Bool.{Bool, true, false}
 use mathlib.Core.List.{List, _++_, append-nil}
 use native.Mathlib.Omega.{arith}
 use lib.Ieee.{Float}
-use lib.ListN.{length, drop, getD, drop-of-length-le}
+use lib.ListN.{length, drop, drop-of-length-le}
 use borrow.Author.Tests.{not-true, not-false}
-use Rattle.laws.specs.Loop.{flat}
-use Rattle.laws.proofs.Copies.{length-flat}
-use Rattle.ring_theory.specs.Ring.{Below, oneNumber, numbers}
+use Rattle.ring_theory.specs.Ring.{numbers}
+use Rattle.ring_theory.proofs.Numbers.{size, below}
 use Rattle.ring_theory.proofs.Theorem.{counted}
 use Rattle.ring_ears.specs.Ears.{Lent, Remaining}
 use Rattle.ring_cut.specs.Cut.{Ring, Work, wholeRing, cuttingFrom, cuttingOf, Outcome, laid, cutRingOutcome}
 use Rattle.ring_cut.proofs.Relations.{cuts, at-lowest}
 
-pub getD-numbers : (k i j : ℕ) → j < k → getD (flat oneNumber k i) j 0 ≡ i + j
-unfolding flat
-getD-numbers zero i j h = absurd (omega arith)
-getD-numbers (suc k) i zero h = omega arith
-getD-numbers (suc k) i (suc j) h = getD-numbers k (suc i) j (omega arith) ∙ omega arith
-
-pub size : (n : ℕ) → length (numbers n) ≡ n
-size n = length-flat oneNumber (λ j. refl) n 0
-
-below-numbers : (n : ℕ) → Below n (numbers n)
-below-numbers n j h = let k : j < n = omega (arith, size n) in rw (getD-numbers n 0 j k) (omega arith)
-
 pub lent : {ps : List Float} {classes : List ℕ} → Ring ps classes → Lent ps (numbers (length classes)) classes
-lent {classes = classes} r = record { below = below-numbers (length classes); whole = r .whole; most = r .most; few = rw size (r .most) }
+lent {classes = classes} r = record { below = below (length classes); whole = r .whole; most = r .most; few = rw size (r .most) }
 
 -- all of a ring is cut into n - 2 triangles
 pub all-cut : {ps : List Float} {classes : List ℕ} → Ring ps classes → cuttingOf ps classes .stuck ≡ false

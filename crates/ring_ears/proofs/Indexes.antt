@@ -1,4 +1,4 @@
--- Ring numbers lent with their positions, and indexes counted round. Assumes nothing.
+-- Ring numbers lent with their positions, and the indexes of a cut's neighbours. Assumes nothing.
 use Prim.Native.Nat.{ℕ, _+_, _-_, _%_, _≤_, _<_}
 use mathlib.Core.Path.{_≡_, ap, _∙_}
 use mathlib.Core.List.{List}
@@ -8,7 +8,7 @@ use lib.ListN.{length}
 use lib.Ieee.{Float}
 use Rattle.ring_theory.specs.Ring.{without}
 use Rattle.ring_theory.proofs.Withouts.{length-without, below-without}
-use Rattle.ring_ears.specs.Ears.{Lent, Indexed}
+use Rattle.ring_ears.specs.Ears.{Lent, Indexed, atCut, beforeCut}
 
 module _ {ps : List Float} {ids classes : List ℕ} (l : Lent ps ids classes) where
   pub indexed : Indexed ps ids
@@ -24,9 +24,9 @@ module _ {ps : List Float} {ids classes : List ℕ} (l : Lent ps ids classes) wh
       let e = length-without i ids h in
       (record { below = below-without i ids h (l .below); whole = l .whole; most = l .most; few = omega (arith, l .few) }, omega arith)
 
--- the index before one that is counted round
-pub previous-wrapped : (i : ℕ) {k m : ℕ} → k < m → (i % m + m - 1) % m ≡ (i + m - 1) % m
-previous-wrapped i {k} {m} h =
-    let p : (i % m) + m - 1 ≡ (i % m) + (m - 1) = omega arith in
+-- the index before the one at a cut is the one before the cut
+pub before-at-cut : (i : ℕ) {k m : ℕ} → k < m → (atCut m i + m - 1) % m ≡ beforeCut m i
+before-at-cut i {k} {m} h =
+    let p : atCut m i + m - 1 ≡ atCut m i + (m - 1) = omega arith in
     let q : i + (m - 1) ≡ i + m - 1 = omega arith in
     ap (λ (k : ℕ). k % m) p ∙ mod-add-mod i m (m - 1) ∙ ap (λ (k : ℕ). k % m) q

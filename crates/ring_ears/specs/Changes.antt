@@ -1,12 +1,11 @@
 -- Whether a cut changes which corners are convex. Definitions only.
-use Prim.Native.Nat.{ℕ, _%_}
+use Prim.Native.Nat.{ℕ}
 use mathlib.Core.Bool.{Bool, true, false, not, _||_, cond}
 use mathlib.Core.List.{List}
 use lib.ListN.{length}
 use lib.Dec.{eqb, ltb}
 use lib.Ieee.{Float}
-use Rattle.ring_theory.specs.Ring.{prev}
-use Rattle.ring_ears.specs.Ears.{convex, triangleAt, classOf, turnOf, reclassify}
+use Rattle.ring_ears.specs.Ears.{convex, triangleAt, classOf, turnOf, reclassify, atCut, beforeCut}
 
 -- one of two holds, and the other does not
 abbrev pub differ : Bool → Bool → Bool
@@ -20,4 +19,5 @@ changed ps ids i classes = differ (convex ids classes i) (eqb (classOf (turnOf (
 -- so does classing the two neighbours of a cut at index i that left `ids`
 unfoldable pub oneChanged : List Float → List ℕ → ℕ → List ℕ → Bool
 oneChanged ps ids i classes =
-    cond (ltb 3 (length ids)) (changed ps ids (i % length ids) classes || changed ps ids (prev ids i) (reclassify ps ids (i % length ids) classes)) false
+    let m = length ids in
+    cond (ltb 3 m) (changed ps ids (atCut m i) classes || changed ps ids (beforeCut m i) (reclassify ps ids (atCut m i) classes)) false

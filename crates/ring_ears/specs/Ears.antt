@@ -1,4 +1,4 @@
--- SCOPE 16, 17: ears of what is left of a ring, and one cut. An eligible ear is convex, and no corner of another class is inside its triangle or on an edge of
+-- SCOPE 16, 17, 41: ears of what is left of a ring, and one cut. An eligible ear is convex, and no corner of another class is inside its triangle or on an edge of
 -- it. After a cut the two neighbours alone are classed afresh, by the side test (SCOPE 5), and only if more than three are left.
 -- `ids` are the ring numbers left, in order; `classes` are by ring number: 0 convex, 1 reflex, 2 both. Definitions only.
 use Prim.Native.Nat.{ℕ, _-_, _+_, _*_, _%_, _≤_, _<_}
@@ -70,9 +70,18 @@ turnOf t = sideOf (t .previous) (t .this) (t .next)
 unfoldable pub reclassify : List Float → List ℕ → ℕ → List ℕ → List ℕ
 reclassify ps ids i classes = set classes (getD ids i 0) (classOf (turnOf (triangleAt ps ids i)))
 
--- the classes after a cut at index i that left `ids`: those of the two neighbours afresh, if more than three are left
+-- SCOPE 41: the two neighbours of a cut at index i, which leaves m corners. i runs from 0 to m: a cut at the last index leaves i = m, which is index 0.
+-- at the cut: the index where the corner stood that was cut off, counted round the ring
+abbrev pub atCut : ℕ → ℕ → ℕ
+atCut m i = i % m
+
+-- before the cut: the index before that one, counted round the ring
+abbrev pub beforeCut : ℕ → ℕ → ℕ
+beforeCut m i = (i + m - 1) % m
+
+-- the classes after a cut at index i that left `ids`: the corner at the cut and then the one before it afresh, if more than three are left
 unfoldable pub reclassifyBoth : List Float → List ℕ → ℕ → List ℕ → List ℕ
-reclassifyBoth ps ids i classes = cond (ltb 3 (length ids)) (reclassify ps ids (prev ids i) (reclassify ps ids (i % length ids) classes)) classes
+reclassifyBoth ps ids i classes = cond (ltb 3 (length ids)) (reclassify ps ids (beforeCut (length ids) i) (reclassify ps ids (atCut (length ids) i) classes)) classes
 
 -- what is left of a ring
 pub record Remaining : Type 0 where

@@ -132,18 +132,18 @@ fn reclassify(ps: &[f64], ids: &[u16], classes: &mut [u8], i: usize) -> bool
     differ(was, c == 0)
 }
 
-// Classes the two neighbours of a corner that was cut off at index i afresh, if more than three are left; whether one of them was convex and is not, or
-// the other way round.
+// Classes the two neighbours of a corner that was cut off at index i afresh, if more than three are left: the one at the cut and then the one before it,
+// counted round the ring. Whether one of them was convex and is not, or the other way round.
 fn reclassify_both(ps: &[f64], ids: &[u16], classes: &mut [u8], i: usize) -> bool
     requires { ⌜ Lent (now ps) (now ids) (now classes) × (i ≤ length (now ids)) ⌝ }
     ensures { λ r. ⌜ (now (classes .exit) ≡ reclassifyBoth (now (ps .entry)) (now (ids .entry)) i (now (classes .entry))) × (r ≡ oneChanged (now (ps .entry)) (now (ids .entry)) i (now (classes .entry))) ⌝ }
 {
     let m = ids.len();
     if 3 < m {
-        let next = ring_index::wrapped(i, m);
-        let before = ring_index::previous(next, m);
-        let a = reclassify(ps, ids, classes, next);
-        let b = reclassify(ps, ids, classes, before);
+        let at_cut = ring_index::wrapped(i, m);
+        let before_cut = ring_index::previous(at_cut, m);
+        let a = reclassify(ps, ids, classes, at_cut);
+        let b = reclassify(ps, ids, classes, before_cut);
         return a | b;
     }
     false

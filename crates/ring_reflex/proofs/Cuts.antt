@@ -1,5 +1,5 @@
 -- A cut that leaves its neighbours as convex, or not, as they were: the corners that are not convex are then the same. Assumes nothing.
-use Prim.Native.Nat.{ℕ, _+_, _-_, _%_, _≤_, _<_}
+use Prim.Native.Nat.{ℕ, _+_, _-_, _≤_, _<_}
 use mathlib.Core.Path.{_≡_, refl, sym, ap, _∙_}
 use mathlib.Core.Bool.{Bool, true, false, _||_, cond, true≢false}
 use mathlib.Core.List.{List}
@@ -10,9 +10,9 @@ use lib.ListN.{length, getD, take, drop, set, length-set}
 use lib.Seq.{getD-set-same, getD-set-other}
 use borrow.Author.Tests.{eqb-true, eqb-false, ltb-true}
 use Rattle.laws.proofs.Loops.{wraps}
-use Rattle.ring_theory.specs.Ring.{prev, without}
+use Rattle.ring_theory.specs.Ring.{without}
 use Rattle.ring_theory.proofs.Withouts.{length-without, taken}
-use Rattle.ring_ears.specs.Ears.{Lent, convex, triangleAt, classOf, turnOf, reclassify, reclassifyBoth, Remaining, cutIn}
+use Rattle.ring_ears.specs.Ears.{Lent, convex, triangleAt, classOf, turnOf, reclassify, atCut, beforeCut, reclassifyBoth, Remaining, cutIn}
 use Rattle.ring_reflex.specs.Apart.{apartOf}
 use Rattle.ring_ears.specs.Changes.{differ, changed, oneChanged}
 use Rattle.ring_ears.proofs.Indexes.{relent, lent-without}
@@ -41,22 +41,29 @@ unfolding reclassify
 size-one ps ids i classes = length-set classes (getD ids i 0) _
 
 module _ {ps : List Float} {ids classes : List ℕ} (l : Lent ps ids classes) (i : ℕ) where
-  -- both neighbours, one after the other
-  both : 3 < length ids → changed ps ids (i % length ids) classes || changed ps ids (prev ids i) (reclassify ps ids (i % length ids) classes) ≡ false
-      → Alike classes (reclassify ps ids (prev ids i) (reclassify ps ids (i % length ids) classes))
+  abbrev at-cut : ℕ
+  at-cut = atCut (length ids) i
+
+  abbrev before-cut : ℕ
+  before-cut = beforeCut (length ids) i
+
+  -- the classes with the first of the two neighbours afresh
+  abbrev once : List ℕ
+  once = reclassify ps ids at-cut classes
+
+  both : 3 < length ids → changed ps ids at-cut classes || changed ps ids before-cut once ≡ false → Alike classes (reclassify ps ids before-cut once)
   both h e k =
-      let n = i % length ids in
-      let f = neither (changed ps ids n classes) (changed ps ids (prev ids i) (reclassify ps ids n classes)) e in
-      let first = alike-one ps ids n classes (l .below n (wraps i h)) (f .0) k in
-      let second = alike-one ps ids (prev ids i) (reclassify ps ids n classes) (rw (size-one ps ids n classes) (l .below (prev ids i) (wraps (i + length ids - 1) h))) (f .1) k in
+      let f = neither (changed ps ids at-cut classes) (changed ps ids before-cut once) e in
+      let first = alike-one ps ids at-cut classes (l .below at-cut (wraps i h)) (f .0) k in
+      let second = alike-one ps ids before-cut once (rw (size-one ps ids at-cut classes) (l .below before-cut (wraps (i + length ids - 1) h))) (f .1) k in
       second ∙ first
 
   pub alike-both : oneChanged ps ids i classes ≡ false → Alike classes (reclassifyBoth ps ids i classes)
   unfolding oneChanged reclassifyBoth
   alike-both e = go (ltb 3 (length ids)) refl e
     where
-      go : (b : Bool) → ltb 3 (length ids) ≡ b → cond b (changed ps ids (i % length ids) classes || changed ps ids (prev ids i) (reclassify ps ids (i % length ids) classes)) false ≡ false
-          → Alike classes (cond b (reclassify ps ids (prev ids i) (reclassify ps ids (i % length ids) classes)) classes)
+      go : (b : Bool) → ltb 3 (length ids) ≡ b → cond b (changed ps ids at-cut classes || changed ps ids before-cut once) false ≡ false
+          → Alike classes (cond b (reclassify ps ids before-cut once) classes)
       go true q f = both (ltb-true 3 (length ids) q) f
       go false q f = λ k. refl
 

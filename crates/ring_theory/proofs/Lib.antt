@@ -4,6 +4,7 @@ pub mod Sides
 pub mod Crossings
 pub mod Steps
 pub mod Indexes
+pub mod Numbers
 pub mod Threes
 pub mod Theorem
 pub mod Flips

@@ -3,7 +3,12 @@ use Prim.Native.Nat.{ℕ, _<_}
 use mathlib.Core.Path.{_≡_}
 use mathlib.Core.List.{List, _++_}
 use lib.ListN.{length}
-use Rattle.ring_theory.specs.Ring.{without, earOf}
+use Rattle.ring_theory.specs.Ring.{numbers, without, earOf}
+
+-- a ring left of n corners: the whole ring, or what is left of one when the corner at an index of it is cut off
+pub data RingLeft (n : ℕ) : List ℕ → Type 0 where
+  uncut : RingLeft n (numbers n)
+  cut-off : {ids : List ℕ} (i : ℕ) → i < length ids → RingLeft n ids → RingLeft n (without i ids)
 
 -- the flat list of triples cuts the ring `ids`, at whatever indexes; which of them may be cut, an eligible ear say, is asked elsewhere
 pub data Cuts : List ℕ → List ℕ → Type 0 where

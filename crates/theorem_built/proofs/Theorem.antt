@@ -21,7 +21,7 @@ use Rattle.ring_place.specs.Places.{inTriangle}
 use Rattle.ring_shape.specs.Shapes as S
 use Rattle.ring_cut.specs.Cut as C
 use Rattle.ring_cut.proofs.Steps.{cutting-end}
-use Rattle.ring_cut.proofs.Wholes.{size}
+use Rattle.ring_theory.proofs.Numbers.{size}
 use Rattle.ring_check.specs.Accepted.{accepted}
 use Rattle.ring_pair.specs.Probes.{askedMidpoint, firstMiddle, middleProbe, unambiguousPoint}
 use Rattle.loop_header.specs.declared.State.{State}

@@ -10,7 +10,7 @@ use Rattle.ring_corners.specs.Corners.{reversal, ringOf, normalsOf, classesOf, 
 use Rattle.loop_build.specs.Build as Build
 use Rattle.theorem_settled.specs.Settled.{built, blank, blank-classes, area-1, four-corners}
 use Rattle.theorem_settled.proofs.Computing as Computing
-use Rattle.theorem_wrongs.specs.Wrongs.{area-2, across, in-the-other, in-the-one, one-mean, round-z, repeated, five-positions, to-and-fro}
+use Rattle.theorem_wrongs.specs.Wrongs.{area-2, across, in-the-other, in-the-one, one-mean, round-z, repeated, five-positions, to-and-fro, ear-at-first, ear-at-last}
 
 abbrev pub ring : List Float → ℕ → Bool → List ℕ → Build.Outcome
 ring l n reversed classes = record {
@@ -72,6 +72,14 @@ five-positions-built = as-built five-positions 5 true (0 ∷ 1 ∷ 0 ∷ 2 ∷ 2
 pub to-and-fro-built : built to-and-fro 5 ≡ ring to-and-fro 5 false (0 ∷ 0 ∷ 1 ∷ 0 ∷ 0 ∷ [])
 unfolding Computing.of-building
 to-and-fro-built = as-built to-and-fro 5 false (0 ∷ 0 ∷ 1 ∷ 0 ∷ 0 ∷ []) (record { fine = refl; counted = refl; more = refl; turned = refl; classed = refl; other = refl })
+
+pub ear-at-first-built : built ear-at-first 5 ≡ ring ear-at-first 5 true (0 ∷ 2 ∷ 2 ∷ 1 ∷ 2 ∷ [])
+unfolding Computing.of-building
+ear-at-first-built = as-built ear-at-first 5 true (0 ∷ 2 ∷ 2 ∷ 1 ∷ 2 ∷ []) (record { fine = refl; counted = refl; more = refl; turned = refl; classed = refl; other = refl })
+
+pub ear-at-last-built : built ear-at-last 5 ≡ ring ear-at-last 5 false (2 ∷ 2 ∷ 2 ∷ 2 ∷ 0 ∷ [])
+unfolding Computing.of-building
+ear-at-last-built = as-built ear-at-last 5 false (2 ∷ 2 ∷ 2 ∷ 2 ∷ 0 ∷ []) (record { fine = refl; counted = refl; more = refl; turned = refl; classed = refl; other = refl })
 
 pub round-z-built : built round-z 3 ≡ ring round-z 3 true (0 ∷ 0 ∷ 0 ∷ [])
 unfolding Computing.of-building

@@ -1,5 +1,5 @@
 -- Each named wrong program is refuted by computing the definition at its input. Assumes nothing.
-use Prim.Native.Nat.{ℕ, _+_}
+use Prim.Native.Nat.{ℕ, _+_, _-_, _%_}
 use native.Mathlib.Omega.{arith}
 use mathlib.Core.Path.{_≡_, refl, sym, ap, _∙_, subst}
 use mathlib.Core.Bool.{Bool, true, false}
@@ -19,6 +19,7 @@ use Rattle.base.specs.declared.Side.{Side}
 use Rattle.base.specs.declared.Side.the-variants.{Left, Right, Collinear}
 use Rattle.judge.specs.Judge.{vectorFault, faultOf}
 use Rattle.ring_turns.specs.Turns.{edgeNormals}
+use Rattle.ring_ears.specs.Ears.{atCut, beforeCut}
 use Rattle.loop_header.specs.declared.Header.{Header}
 use Rattle.loop_header.specs.Loops.{stateCode, emptyHeader}
 use Rattle.loop_build.specs.Build as Build
@@ -26,15 +27,15 @@ use Rattle.loop_ask.specs.Answers as Answers
 use Rattle.loop_ask.specs.Questions.{placeAnswer}
 use Rattle.loop_triangles.proofs.triangulate as Triangulate
 use Rattle.loop_triangles.specs.declared.Cut.the-variants.{Triangles}
-use Rattle.loop_triangles.specs.Triangles.{triangulateOutcome}
+use Rattle.loop_triangles.specs.Triangles.{Outcome, triangulateOutcome}
 use Rattle.loop_relate.specs.Relations.{relateAnswer}
 use Rattle.theorem_settled.specs.Settled.{at, built, blank, blank-classes, area-1, four-corners, four-built, four-checked, full-one, empty-one, related}
 use Rattle.theorem_settled.proofs.Computing as Computing
 use Rattle.theorem_wrongs.proofs.Computing.{of-places, of-pairs}
 use Rattle.theorem_wrongs.proofs.Rings.{ring, area-1-built, area-2-built, across-built, in-the-other-built, in-the-one-built}
-use Rattle.theorem_wrongs.proofs.Rings.{one-mean-built, round-z-built, repeated-built, four-corners-built, five-positions-built, to-and-fro-built}
-use Rattle.theorem_wrongs.specs.Wrongs.{in-area-1, to-and-fro, header, placed, cutFrom, cutInto, checked, pair, toFull, classesBySide, cuttingAfresh, cutAfresh, one-mean, round-z, muted, fourTo, between, answerAlone}
-use Rattle.theorem_wrongs.specs.Wrongs.{OutsideAlways, DisjointAlways, BlankRing, Fan, EmptyPrograms, Traps, OfNumbers, OfBuilding, OfAsking, OfCutting, OfRelating, OfMute, OfContracts, Wrongs}
+use Rattle.theorem_wrongs.proofs.Rings.{one-mean-built, round-z-built, repeated-built, four-corners-built, five-positions-built, to-and-fro-built, ear-at-first-built, ear-at-last-built}
+use Rattle.theorem_wrongs.specs.Wrongs.{in-area-1, to-and-fro, header, placed, cutFrom, cutInto, checked, pair, toFull, classesBySide, cuttingBy, cutBy, everyAfresh, neighbours, cutWhole, one-mean, round-z, muted, fourTo, between, answerAlone}
+use Rattle.theorem_wrongs.specs.Wrongs.{OutsideAlways, DisjointAlways, BlankRing, Fan, EmptyPrograms, Traps, OfNumbers, OfBuilding, OfAsking, OfCutting, OfNeighbours, OfRelating, OfMute, OfContracts, Wrongs}
 
 -- what tells two values apart
 abbrev told : Answers.Told → ℕ
@@ -150,9 +151,9 @@ empty-programs = record {
 }
 
 traps : Traps
-unfolding Computing.of-asking Computing.of-checking cuttingAfresh
+unfolding Computing.of-asking Computing.of-checking cuttingBy
 traps = record {
-  every-vertex-afresh = λ e. below 3 108 104 refl (ap told (of-ring five-positions-built (λ o. cutFrom o (replicate 9 0) ≡ cutAfresh o 5) e));
+  every-vertex-afresh = λ e. below 3 108 104 refl (ap told (of-ring five-positions-built (λ o. cutFrom o (replicate 9 0) ≡ cutBy everyAfresh o 5 .answer) e));
   first-by-side = λ e. above 1 0 0 refl (ap (λ l. getD l 1 9) (of-ring repeated-built (λ o. o .classes ≡ classesBySide (o .positions) 4) e));
   strict-side = λ e. above 2 0 1 refl (ap side e);
   corner-inside = λ e. below 0 1 0 refl (ap told (of-ring area-1-built (λ o. placed o axis-x ≡ Answers.answer 1) e));
@@ -205,6 +206,20 @@ of-cutting = record {
   one-neighbour = four-no (3 ∷ 0 ∷ 2 ∷ 1 ∷ 2 ∷ 3 ∷ []) refl;
   triple-too-many = four-no (3 ∷ 0 ∷ 1 ∷ 1 ∷ 2 ∷ 3 ∷ 1 ∷ 2 ∷ 3 ∷ []) refl;
   any-corner = λ e. below 0 1 0 refl (ap told (of-ring five-positions-built (λ o. checked o (0 ∷ 1 ∷ 2 ∷ 0 ∷ 2 ∷ 3 ∷ 0 ∷ 3 ∷ 4 ∷ []) ≡ Answers.answer 1) e));
+}
+
+-- the first number of the second triangle
+abbrev second : Outcome → ℕ
+second o = getD (o .triangles) 3 9
+
+of-neighbours : OfNeighbours
+unfolding Computing.of-cutting cuttingBy
+of-neighbours = record {
+  after-the-cut = λ e. below 3 108 104 refl (ap (λ o. told (o .answer)) (of-ring five-positions-built (λ o. cutWhole o 5 ≡ cutBy (neighbours (λ m i. (i + 1) % m) beforeCut) o 5) e));
+  two-before = λ e. below 2 4 1 refl (ap second (of-ring to-and-fro-built (λ o. cutWhole o 5 ≡ cutBy (neighbours atCut (λ m i. (i + m - 2) % m)) o 5) e));
+  not-round-at-first = λ e. below 3 108 104 refl (ap (λ o. told (o .answer)) (of-ring ear-at-first-built (λ o. cutWhole o 5 ≡ cutBy (neighbours atCut (λ m i. i - 1)) o 5) e));
+  not-round-at-last = λ e. above 3 2 0 refl (ap second (of-ring ear-at-last-built (λ o. cutWhole o 5 ≡ cutBy (neighbours (λ m i. i) beforeCut) o 5) e));
+  where-three-are-left = λ e. below 0 1 0 refl (ap (λ l. getD l 0 9) e);
 }
 
 -- a loop whose slices are gone, to area 1 with a class of 3
@@ -267,6 +282,7 @@ wrongs = record {
   of-building = of-building;
   of-asking = of-asking;
   of-cutting = of-cutting;
+  of-neighbours = of-neighbours;
   of-relating = of-relating;
   of-mute = of-mute;
   of-contracts = of-contracts;

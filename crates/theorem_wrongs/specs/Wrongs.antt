@@ -1,8 +1,8 @@
 -- Named wrong programs: each gives, at one input, an answer that no program which meets the contract can give, since the definition that the contract
 -- cites has another answer there. docs/SCOPE.md, "Wrong programs", names the five empty programs and the traps. Proved in proofs/Theorem.antt. Definitions only.
-use Prim.Native.Nat.{ℕ, zero, suc, _+_, _-_, _%_}
+use Prim.Native.Nat.{ℕ, zero, suc, _+_, _-_, _*_, _%_}
 use mathlib.Core.Path.{_≡_}
-use mathlib.Core.Bool.{false, not, cond}
+use mathlib.Core.Bool.{false, cond}
 use mathlib.Core.List.{List, [], _∷_, _++_}
 use lib.Dec.{ltb}
 use lib.ListN.{length, replicate}
@@ -26,15 +26,15 @@ use Rattle.base.specs.Sides.{sideOf}
 use Rattle.judge.specs.Judge.{vectorFault, faultOf}
 use Rattle.ring_theory.specs.Ring.{without, earOf}
 use Rattle.ring_turns.specs.Turns.{edgeNormals}
-use Rattle.ring_ears.specs.Ears.{classOf, reclassify, Remaining}
-use Rattle.ring_cut.specs.Cut.{Cutting, ahead, atEar, lowestOf, wholeRing}
+use Rattle.ring_ears.specs.Ears.{classOf, reclassify, atCut, beforeCut, reclassifyBoth, Remaining}
+use Rattle.ring_cut.specs.Cut.{Cutting, ahead, atEar, lowestOf, wholeRing, outcomeIf}
 use Rattle.loop_header.specs.declared.Header.{Header}
 use Rattle.loop_header.specs.declared.State.the-variants.{Empty}
 use Rattle.loop_build.specs.Build as Build
 use Rattle.loop_ask.specs.Answers.{Told, refused, answer}
 use Rattle.loop_ask.specs.Questions.{placeAnswer}
 use Rattle.loop_triangles.proofs.triangulate as Triangulate
-use Rattle.loop_triangles.specs.Triangles.{toldCut, cutTold, triangulateOutcome, acceptsAnswer}
+use Rattle.loop_triangles.specs.Triangles.{toldCut, Outcome, laid, triangulateOutcome, acceptsAnswer}
 use Rattle.loop_relate.specs.Relations.{relateAnswer}
 use Rattle.theorem_settled.specs.Settled.{six-tenths, eight-tenths, minus-six-tenths, at, built, blank, blank-classes, area-1, flat-list, headerOf, four-built, four-cut, four-checked, full-one, empty-one, related}
 
@@ -92,6 +92,14 @@ five-positions = coords axis-z ++ coords (at eight-tenths F64.zero six-tenths) +
 abbrev pub to-and-fro : List Float
 to-and-fro = coords (at F64.zero eight-tenths six-tenths) ++ coords (at eight-tenths F64.zero six-tenths) ++ coords (at F64.zero six-tenths eight-tenths) ++ coords (at six-tenths F64.zero eight-tenths) ++ coords axis-z
 
+-- Z, X, -Y, Y, -X: reversed, the classes are 0, 2, 2, 1, 2, and the cuts (4,0,1), at the first index, then (3,4,1), (1,2,3)
+abbrev pub ear-at-first : List Float
+ear-at-first = coords axis-z ++ coords axis-x ++ coords (opposite axis-y) ++ coords axis-y ++ coords (opposite axis-x)
+
+-- -Z, -X, -X, -Y, X, kept: the classes are 2, 2, 2, 2, 0, and the cuts (3,4,0), at the last index, then (3,0,1), (1,2,3)
+abbrev pub ear-at-last : List Float
+ear-at-last = coords (opposite axis-z) ++ coords (opposite axis-x) ++ coords (opposite axis-x) ++ coords (opposite axis-y) ++ coords axis-x
+
 -- ---- the questions put to loops as built
 abbrev pub header : Build.Outcome → Header
 header o = headerOf (o .answer)
@@ -104,6 +112,9 @@ cutFrom o room = triangulateOutcome (header o) (o .positions) (o .classes) room 
 
 abbrev pub cutInto : Build.Outcome → List ℕ → List ℕ
 cutInto o room = triangulateOutcome (header o) (o .positions) (o .classes) room .triangles
+
+abbrev pub cutWhole : Build.Outcome → ℕ → Outcome
+cutWhole o n = triangulateOutcome (header o) (o .positions) (o .classes) (replicate (3 * (n - 2)) 0)
 
 abbrev pub checked : Build.Outcome → List ℕ → Told
 checked o triples = acceptsAnswer (header o) (o .positions) (o .classes) triples
@@ -123,16 +134,35 @@ classBySide ps n k = classOf (sideOf (posAt ps ((k + n - 1) % n)) (posAt ps k) (
 abbrev pub classesBySide : List Float → ℕ → List ℕ
 classesBySide ps n = flat (λ k. classBySide ps n k ∷ []) n 0
 
--- a cut after which every vertex of the ring left is classed afresh, and all cuts with it
-abbrev pub afresh : List Float → List ℕ → List ℕ → Remaining
-afresh ps ids classes = record { ids = ids; classes = cond (ltb 3 (length ids)) (iterate (reclassify ps ids) (length ids) 0 classes) classes }
+-- how the classes are found after a cut: from the positions, the ring left, the index of the cut and the classes before it
+abbrev pub Step : Type 0
+Step = List Float → List ℕ → ℕ → List ℕ → List ℕ
 
-unfoldable pub cuttingAfresh : List Float → ℕ → Remaining → Cutting
-cuttingAfresh ps zero s = record { triangles = s .ids; stuck = false }
-cuttingAfresh ps (suc k) s = atEar (ltb (lowestOf ps s) (length (s .ids))) (lowestOf ps s) (λ i. ahead (earOf (s .ids) i) (cuttingAfresh ps k (afresh ps (without i (s .ids)) (s .classes))))
+-- all cuts with such a step, and what they leave: the answer, and the triangles in room that held zeros
+unfoldable pub cuttingBy : Step → List Float → ℕ → Remaining → Cutting
+cuttingBy step ps zero s = record { triangles = s .ids; stuck = false }
+cuttingBy step ps (suc k) s =
+    atEar (ltb (lowestOf ps s) (length (s .ids))) (lowestOf ps s)
+    (λ i. ahead (earOf (s .ids) i) (cuttingBy step ps k (record { ids = without i (s .ids); classes = step ps (without i (s .ids)) i (s .classes) })))
 
-abbrev pub cutAfresh : Build.Outcome → ℕ → Told
-cutAfresh o n = cutTold (not (cuttingAfresh (o .positions) (n - 3) (wholeRing (o .classes)) .stuck)) (n - 2)
+abbrev pub cutBy : Step → Build.Outcome → ℕ → Outcome
+cutBy step o n =
+    let c = cuttingBy step (o .positions) (n - 3) (wholeRing (o .classes)) in
+    laid (outcomeIf (c .stuck) (c .triangles) (replicate (3 * (n - 2)) 0)) (n - 2)
+
+-- every vertex of the ring left is classed afresh
+abbrev pub everyAfresh : Step
+everyAfresh ps ids i classes = cond (ltb 3 (length ids)) (iterate (reclassify ps ids) (length ids) 0 classes) classes
+
+-- two are, at the indexes that are said to be the neighbours'; an index that is none of the ring left is passed over
+abbrev pub oneAfresh : List Float → List ℕ → ℕ → List ℕ → List ℕ
+oneAfresh ps ids k classes = cond (ltb k (length ids)) (reclassify ps ids k classes) classes
+
+abbrev pub twoAfresh : (ℕ → ℕ → ℕ) → (ℕ → ℕ → ℕ) → Step
+twoAfresh at before ps ids i classes = oneAfresh ps ids (before (length ids) i) (oneAfresh ps ids (at (length ids) i) classes)
+
+abbrev pub neighbours : (ℕ → ℕ → ℕ) → (ℕ → ℕ → ℕ) → Step
+neighbours at before ps ids i classes = cond (ltb 3 (length ids)) (twoAfresh at before ps ids i classes) classes
 
 -- ---- the five empty programs
 -- the second says outside of every place: of one in a ring of three, in a ring of more, in the full loop, and of one asked of a mute loop
@@ -178,7 +208,7 @@ pub record EmptyPrograms : Type 0 where
 -- ---- the traps
 pub record Traps : Type 0 where
   -- every vertex classed afresh after a cut: no ear would be left
-  pub every-vertex-afresh : cutFrom (built five-positions 5) (replicate 9 0) ≡ cutAfresh (built five-positions 5) 5 → ⊥
+  pub every-vertex-afresh : cutFrom (built five-positions 5) (replicate 9 0) ≡ cutBy everyAfresh (built five-positions 5) 5 .answer → ⊥
   -- corners classed the first time by `Sphere::side`: the first corner at Y would be convex
   pub first-by-side : built repeated 4 .classes ≡ classesBySide (built repeated 4 .positions) 4 → ⊥
   -- a strict comparison at 10·2^-52: the product of these three is exactly that
@@ -245,6 +275,19 @@ pub record OfCutting : Type 0 where
   -- it takes any corner for an ear: corner 1 is reflex
   pub any-corner : checked (built five-positions 5) (0 ∷ 1 ∷ 2 ∷ 0 ∷ 2 ∷ 3 ∷ 0 ∷ 3 ∷ 4 ∷ []) ≡ answer 1 → ⊥
 
+-- ---- the neighbours of a cut (SCOPE 41)
+pub record OfNeighbours : Type 0 where
+  -- the one after the cut in place of the one at the cut: no ear would be left
+  pub after-the-cut : cutWhole (built five-positions 5) 5 ≡ cutBy (neighbours (λ m i. (i + 1) % m) beforeCut) (built five-positions 5) 5 → ⊥
+  -- two before the cut in place of one: (4,0,2) would be the second triangle, and not (2,3,4)
+  pub two-before : cutWhole (built to-and-fro 5) 5 ≡ cutBy (neighbours atCut (λ m i. (i + m - 2) % m)) (built to-and-fro 5) 5 → ⊥
+  -- the one before not counted round at the first index: no ear would be left
+  pub not-round-at-first : cutWhole (built ear-at-first 5) 5 ≡ cutBy (neighbours atCut (λ m i. i - 1)) (built ear-at-first 5) 5 → ⊥
+  -- the one at the cut not counted round after a cut at the last index: (2,3,0) would be the second triangle, and not (3,0,1)
+  pub not-round-at-last : cutWhole (built ear-at-last 5) 5 ≡ cutBy (neighbours (λ m i. i) beforeCut) (built ear-at-last 5) 5 → ⊥
+  -- classing where three are left, which no triangle shows: of X, Y, Z the first would be reflex
+  pub where-three-are-left : reclassifyBoth area-1 (0 ∷ 1 ∷ 2 ∷ []) 0 (0 ∷ 0 ∷ 0 ∷ []) ≡ twoAfresh atCut beforeCut area-1 (0 ∷ 1 ∷ 2 ∷ []) 0 (0 ∷ 0 ∷ 0 ∷ []) → ⊥
+
 -- ---- relating
 pub record OfRelating : Type 0 where
   -- FULL to EMPTY as Within, or as Equal; EMPTY to FULL as Within
@@ -295,6 +338,7 @@ pub record Wrongs : Type 0 where
   pub of-building : OfBuilding
   pub of-asking : OfAsking
   pub of-cutting : OfCutting
+  pub of-neighbours : OfNeighbours
   pub of-relating : OfRelating
   pub of-mute : OfMute
   pub of-contracts : OfContracts

@@ -453,11 +453,43 @@ fn full_positions(t: &mut Tally) {
     }
 }
 
+/// Which branch of the source's `re_classify` finds the neighbours of a cut: i is its index, m how many corners it leaves.
+fn branch(i: usize, m: usize) -> &'static str {
+    match i {
+        0 => "at i = 0",
+        1 => "at i = 1",
+        _ if i == m => "at i = m, the last index",
+        _ if i + 1 == m => "at i = m - 1",
+        _ => "at another i",
+    }
+}
+
+/// Counts the cuts that leave more than three, and the rings that have one, by branch: each has to be met.
+fn note_branches(t: &mut Tally, l: &[u8]) {
+    let Some(ring) = ring(l).filter(|g| g.state == 2) else { return };
+    let Some(triples) = model::cut::triangles(&ring) else { return };
+    let mut left: Vec<u16> = (0..ring.vertices.len() as u16).collect();
+    let mut met = std::collections::BTreeSet::new();
+    for [_, this, _] in &triples[..triples.len() - 1] {
+        let i = left.iter().position(|k| k == this).expect("a corner of the ring left");
+        left.remove(i);
+        if left.len() > 3 {
+            let which = branch(i, left.len());
+            t.note(&format!("cuts {which}"));
+            met.insert(which);
+        }
+    }
+    for which in met {
+        t.note(&format!("rings with a cut {which}"));
+    }
+}
+
 pub fn triangles(t: &mut Tally, r: &mut Random, n: usize) {
     full_positions(t);
     for _ in 0..n {
         let len = shapes::length(r).min(if r.chance(6) { 512 } else { 100 });
         let l = some_loop(r, len);
+        note_branches(t, &l);
         let state = if l.len() > 2 { l[2] } else { 0 };
         let needs = if state == 1 {
             20

@@ -1,7 +1,7 @@
--- Above three, the corner next and then the one before it are classed afresh, and the answer is whether one changed; else nothing is done.
+-- Above three, the corner at the cut and then the one before it are classed afresh, and the answer is whether one changed; else nothing is done.
 use native.Mathlib.Omega.{arith}
 use borrow.Author.Tests.{lt-ltb, le-ltb}
-use Rattle.ring_ears.proofs.Indexes.{relent, previous-wrapped}
+use Rattle.ring_ears.proofs.Indexes.{relent, before-at-cut}
 use Rattle.ring_ears.specs.Ears.{reclassifyBoth}
 use Rattle.ring_ears.specs.Changes.{oneChanged}
 use borrow.Author.Needs.{needs}
@@ -33,7 +33,7 @@ returns c =
     let back = first .before .before in
     let wrap = back .before in
     let above = wrap .before .if1 .taken in
-    let same = previous-wrapped ((start-of wrap) .args .i) above in
+    let same = before-at-cut ((start-of wrap) .args .i) above in
     let index = back .previous .ensures .0 in
     let after = wrap .wrapped .ensures .0 in
     let one = first .reclassify .ensures in

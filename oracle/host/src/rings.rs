@@ -489,7 +489,6 @@ pub fn triangles(t: &mut Tally, r: &mut Random, n: usize) {
     for _ in 0..n {
         let len = shapes::length(r).min(if r.chance(6) { 512 } else { 100 });
         let l = some_loop(r, len);
-        note_branches(t, &l);
         let state = if l.len() > 2 { l[2] } else { 0 };
         let needs = if state == 1 {
             20
@@ -503,6 +502,9 @@ pub fn triangles(t: &mut Tally, r: &mut Random, n: usize) {
             1 => 6 * needs + r.below(20),
             _ => 6 * needs,
         };
+        if 6 * needs <= size {
+            note_branches(t, &l);
+        }
         t.put(Export::Triangles, vec![by(&l), Arg::OutBytes(blank(size.min(4000)))]);
         let (h, p, _, c) = parts(&l);
         let size = match r.below(8) {

@@ -34,14 +34,23 @@ impl Left {
         self.0[at].2 == 0 && !self.0.iter().any(inside)
     }
 
-    /// Takes the vertex out; the two neighbours alone are classed afresh, if more than three are left.
+    /// Takes the vertex out; the two neighbours alone are classed afresh, if more than three are left: the one at the cut and
+    /// the one before it (SCOPE 41), held to the source's own branches.
     fn cut(&mut self, at: usize) {
         self.0.remove(at);
         let n = self.0.len();
         if n > 3 {
+            let source = cfg!(feature = "held").then(|| sloop::re_classify(&self.vertices(), at));
             self.class(at % n);
             self.class((at + n - 1) % n);
+            if let Some(vertices) = source {
+                assert_eq!(self.vertices(), vertices, "the classes after a cut are the source's");
+            }
         }
+    }
+
+    fn vertices(&self) -> Vec<(NVector, u8)> {
+        self.0.iter().map(|v| (v.1, v.2)).collect()
     }
 
     fn class(&mut self, at: usize) {

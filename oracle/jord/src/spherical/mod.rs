@@ -121,6 +121,12 @@ pub mod sloop {
             let mut remaining = vertices(vs);
             super::next_ear(&mut remaining).map(|ear| (ear, coded(&remaining)))
         }
+        /// The vertices left by a cut at `ear_index`, its neighbours classed afresh.
+        pub fn re_classify(vs: &[(NVector, u8)], ear_index: usize) -> Vec<(NVector, u8)> {
+            let mut remaining = vertices(vs);
+            super::re_classify(&mut remaining, ear_index);
+            coded(&remaining)
+        }
         pub fn inside_or_edge(p: NVector, v1: NVector, v2: NVector, v3: NVector) -> bool {
             super::inside_or_edge(p, v1, v2, v3)
         }

@@ -1,4 +1,4 @@
--- Places counted round, without a division. Assumes nothing.
+-- Indexes counted round, without a division. Assumes nothing.
 use Prim.Native.Nat.{ℕ, _+_, _*_, _%_, _<_}
 use mathlib.Core.Path.{_≡_, sym}
 use native.Mathlib.Omega.{arith}

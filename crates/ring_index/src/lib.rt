@@ -3,7 +3,7 @@ ghost use mathlib.Core.Path.{_≡_};
 ghost use Prim.Native.Nat.{_+_, _-_, _%_, _≤_, _<_};
 ghost use Rattle.ring_index.specs.Blocks.{blockEnd};
 
-// Place n of n is the first.
+// Index n of n is the first.
 pub fn wrapped(k: usize, n: usize) -> usize
     requires { ⌜ (0 < n) × (k ≤ n) ⌝ }
     ensures { λ r. ⌜ (r ≡ k % n) × (r < n) ⌝ }

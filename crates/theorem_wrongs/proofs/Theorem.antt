@@ -34,7 +34,8 @@ use Rattle.theorem_settled.proofs.Computing as Computing
 use Rattle.theorem_wrongs.proofs.Computing.{of-places, of-pairs}
 use Rattle.theorem_wrongs.proofs.Rings.{ring, area-1-built, area-2-built, across-built, in-the-other-built, in-the-one-built}
 use Rattle.theorem_wrongs.proofs.Rings.{one-mean-built, round-z-built, repeated-built, four-corners-built, five-positions-built, to-and-fro-built, ear-at-first-built, ear-at-last-built}
-use Rattle.theorem_wrongs.specs.Wrongs.{in-area-1, to-and-fro, header, placed, cutFrom, cutInto, checked, pair, toFull, classesBySide, cuttingBy, cutBy, everyAfresh, neighbours, cutWhole, one-mean, round-z, muted, fourTo, between, answerAlone}
+use Rattle.theorem_wrongs.specs.Wrongs.{in-area-1, to-and-fro, header, placed, cutFrom, cutInto, checked, pair, toFull, classesBySide, one-mean, round-z, muted, fourTo, between, answerAlone}
+use Rattle.theorem_wrongs.specs.Wrongs.{cuttingBy, cutBy, everyAfresh, neighbours, cutWhole}
 use Rattle.theorem_wrongs.specs.Wrongs.{OutsideAlways, DisjointAlways, BlankRing, Fan, EmptyPrograms, Traps, OfNumbers, OfBuilding, OfAsking, OfCutting, OfNeighbours, OfRelating, OfMute, OfContracts, Wrongs}
 
 -- what tells two values apart

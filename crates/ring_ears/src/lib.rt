@@ -152,7 +152,8 @@ fn reclassify_both(ps: &[f64], ids: &[u16], classes: &mut [u8], i: usize) -> boo
 // Cuts the corner at index i off: its number goes, and the last index keeps its own. Whether a neighbour was convex and is not, or the other way round.
 pub fn cut_told(ps: &[f64], ids: &mut [u16], classes: &mut [u8], i: usize) -> bool
     requires { ⌜ Lent (now ps) (now ids) (now classes) × (i < length (now ids)) ⌝ }
-    ensures { λ r. ⌜ (record { ids = now (ids .exit); classes = now (classes .exit) } ≡ cutIn (now (ps .entry)) (record { ids = now (ids .entry); classes = now (classes .entry) }) i) × (r ≡ oneChanged (now (ps .entry)) (without i (now (ids .entry))) i (now (classes .entry))) ⌝ }
+    ensures { λ r. ⌜ (record { ids = now (ids .exit); classes = now (classes .exit) } ≡ cutIn (now (ps .entry)) (record { ids = now (ids .entry); classes = now (classes .entry) }) i)
+        × (r ≡ oneChanged (now (ps .entry)) (without i (now (ids .entry))) i (now (classes .entry))) ⌝ }
 {
     remove_at(ids, i);
     let m = ids.len() - 1;

@@ -32,10 +32,11 @@ use Rattle.loop_relate.specs.Relations.{relateAnswer}
 use Rattle.theorem_settled.specs.Settled.{at, built, blank, blank-classes, area-1, four-corners, four-built, four-checked, full-one, empty-one, related}
 use Rattle.theorem_settled.proofs.Computing as Computing
 use Rattle.theorem_wrongs.proofs.Computing.{of-places, of-pairs}
+use Rattle.theorem_wrongs.proofs.Cutters.{by-the-rule}
 use Rattle.theorem_wrongs.proofs.Rings.{ring, area-1-built, area-2-built, across-built, in-the-other-built, in-the-one-built}
 use Rattle.theorem_wrongs.proofs.Rings.{one-mean-built, round-z-built, repeated-built, four-corners-built, five-positions-built, to-and-fro-built, ear-at-first-built, ear-at-last-built}
 use Rattle.theorem_wrongs.specs.Wrongs.{in-area-1, to-and-fro, header, placed, cutFrom, cutInto, checked, pair, toFull, classesBySide, one-mean, round-z, muted, fourTo, between, answerAlone}
-use Rattle.theorem_wrongs.specs.Wrongs.{cuttingBy, cutBy, everyAfresh, neighbours, cutWhole}
+use Rattle.theorem_wrongs.specs.Wrongs.{cuttingBy, cutBy, everyAfresh, neighbours, cutOutcome}
 use Rattle.theorem_wrongs.specs.Wrongs.{OutsideAlways, DisjointAlways, BlankRing, Fan, EmptyPrograms, Traps, OfNumbers, OfBuilding, OfAsking, OfCutting, OfNeighbours, OfRelating, OfMute, OfContracts, Wrongs}
 
 -- what tells two values apart
@@ -154,7 +155,7 @@ empty-programs = record {
 traps : Traps
 unfolding Computing.of-asking Computing.of-checking cuttingBy
 traps = record {
-  every-vertex-afresh = λ e. below 3 108 104 refl (ap told (of-ring five-positions-built (λ o. cutFrom o (replicate 9 0) ≡ cutBy everyAfresh o 5 .answer) e));
+  every-vertex-afresh = λ e. below 3 108 104 refl (ap told (of-ring five-positions-built (λ o. cutFrom o (replicate 9 0) ≡ cutBy everyAfresh o (replicate 9 0) .answer) e));
   first-by-side = λ e. above 1 0 0 refl (ap (λ l. getD l 1 9) (of-ring repeated-built (λ o. o .classes ≡ classesBySide (o .positions) 4) e));
   strict-side = λ e. above 2 0 1 refl (ap side e);
   corner-inside = λ e. below 0 1 0 refl (ap told (of-ring area-1-built (λ o. placed o axis-x ≡ Answers.answer 1) e));
@@ -209,17 +210,26 @@ of-cutting = record {
   any-corner = λ e. below 0 1 0 refl (ap told (of-ring five-positions-built (λ o. checked o (0 ∷ 1 ∷ 2 ∷ 0 ∷ 2 ∷ 3 ∷ 0 ∷ 3 ∷ 4 ∷ []) ≡ Answers.answer 1) e));
 }
 
--- the first number of the second triangle
+-- what tells two outcomes of a cut apart: the answer, or the first number of the second triangle
+abbrev cut-told : Outcome → ℕ
+cut-told o = told (o .answer)
+
 abbrev second : Outcome → ℕ
 second o = getD (o .triangles) 3 9
+
+-- a wrong cutter's outcome and the right one, of the ring that was computed once
+of-cutters : {o p : Build.Outcome} (at-cut before-cut : ℕ → ℕ → ℕ) → o ≡ p → cutOutcome o (replicate 9 0) ≡ cutBy (neighbours at-cut before-cut) o (replicate 9 0)
+    → cutOutcome p (replicate 9 0) ≡ cutBy (neighbours at-cut before-cut) p (replicate 9 0)
+of-cutters at-cut before-cut q e = of-ring q (λ o. cutOutcome o (replicate 9 0) ≡ cutBy (neighbours at-cut before-cut) o (replicate 9 0)) e
 
 of-neighbours : OfNeighbours
 unfolding Computing.of-cutting cuttingBy
 of-neighbours = record {
-  after-the-cut = λ e. below 3 108 104 refl (ap (λ o. told (o .answer)) (of-ring five-positions-built (λ o. cutWhole o 5 ≡ cutBy (neighbours (λ m i. (i + 1) % m) beforeCut) o 5) e));
-  two-before = λ e. below 2 4 1 refl (ap second (of-ring to-and-fro-built (λ o. cutWhole o 5 ≡ cutBy (neighbours atCut (λ m i. (i + m - 2) % m)) o 5) e));
-  not-round-at-first = λ e. below 3 108 104 refl (ap (λ o. told (o .answer)) (of-ring ear-at-first-built (λ o. cutWhole o 5 ≡ cutBy (neighbours atCut (λ m i. i - 1)) o 5) e));
-  not-round-at-last = λ e. above 3 2 0 refl (ap second (of-ring ear-at-last-built (λ o. cutWhole o 5 ≡ cutBy (neighbours (λ m i. i) beforeCut) o 5) e));
+  by-the-rule = by-the-rule;
+  after-the-cut = λ e. below 3 108 104 refl (ap cut-told (of-cutters (λ m i. (i + 1) % m) beforeCut five-positions-built e));
+  two-before = λ e. below 2 4 1 refl (ap second (of-cutters atCut (λ m i. (i + m - 2) % m) to-and-fro-built e));
+  not-round-at-first = λ e. below 3 108 104 refl (ap cut-told (of-cutters atCut (λ m i. i - 1) ear-at-first-built e));
+  not-round-at-last = λ e. above 3 2 0 refl (ap second (of-cutters (λ m i. i) beforeCut ear-at-last-built e));
   where-three-are-left = λ e. below 0 1 0 refl (ap (λ l. getD l 0 9) e);
 }
 

@@ -1,6 +1,6 @@
 -- Named wrong programs: each gives, at one input, an answer that no program which meets the contract can give, since the definition that the contract
 -- cites has another answer there. docs/SCOPE.md, "Wrong programs", names the five empty programs and the traps. Proved in proofs/Theorem.antt. Definitions only.
-use Prim.Native.Nat.{ℕ, zero, suc, _+_, _-_, _*_, _%_}
+use Prim.Native.Nat.{ℕ, zero, suc, _+_, _-_, _%_}
 use mathlib.Core.Path.{_≡_}
 use mathlib.Core.Bool.{false, cond}
 use mathlib.Core.List.{List, [], _∷_, _++_}
@@ -27,7 +27,7 @@ use Rattle.judge.specs.Judge.{vectorFault, faultOf}
 use Rattle.ring_theory.specs.Ring.{without, earOf}
 use Rattle.ring_turns.specs.Turns.{edgeNormals}
 use Rattle.ring_ears.specs.Ears.{classOf, reclassify, atCut, beforeCut, reclassifyBoth, Remaining}
-use Rattle.ring_cut.specs.Cut.{Cutting, ahead, atEar, lowestOf, wholeRing, outcomeIf}
+use Rattle.ring_cut.specs.Cut.{Cutting, ahead, atEar, lowestOf, cutting, wholeRing, outcomeIf}
 use Rattle.loop_header.specs.declared.Header.{Header}
 use Rattle.loop_header.specs.declared.State.the-variants.{Empty}
 use Rattle.loop_build.specs.Build as Build
@@ -107,14 +107,14 @@ header o = headerOf (o .answer)
 abbrev pub placed : Build.Outcome → Vec3 → Told
 placed o p = placeAnswer (header o) (o .positions) (o .normals) (o .classes) p
 
+abbrev pub cutOutcome : Build.Outcome → List ℕ → Outcome
+cutOutcome o room = triangulateOutcome (header o) (o .positions) (o .classes) room
+
 abbrev pub cutFrom : Build.Outcome → List ℕ → Told
-cutFrom o room = triangulateOutcome (header o) (o .positions) (o .classes) room .answer
+cutFrom o room = cutOutcome o room .answer
 
 abbrev pub cutInto : Build.Outcome → List ℕ → List ℕ
-cutInto o room = triangulateOutcome (header o) (o .positions) (o .classes) room .triangles
-
-abbrev pub cutWhole : Build.Outcome → ℕ → Outcome
-cutWhole o n = triangulateOutcome (header o) (o .positions) (o .classes) (replicate (3 * (n - 2)) 0)
+cutInto o room = cutOutcome o room .triangles
 
 abbrev pub checked : Build.Outcome → List ℕ → Told
 checked o triples = acceptsAnswer (header o) (o .positions) (o .classes) triples
@@ -138,17 +138,18 @@ classesBySide ps n = flat (λ k. classBySide ps n k ∷ []) n 0
 abbrev pub Step : Type 0
 Step = List Float → List ℕ → ℕ → List ℕ → List ℕ
 
--- all cuts with such a step, and what they leave: the answer, and the triangles in room that held zeros
+-- all cuts with such a step, and what they leave: the answer, and the triangles
 unfoldable pub cuttingBy : Step → List Float → ℕ → Remaining → Cutting
 cuttingBy step ps zero s = record { triangles = s .ids; stuck = false }
 cuttingBy step ps (suc k) s =
     atEar (ltb (lowestOf ps s) (length (s .ids))) (lowestOf ps s)
     (λ i. ahead (earOf (s .ids) i) (cuttingBy step ps k (record { ids = without i (s .ids); classes = step ps (without i (s .ids)) i (s .classes) })))
 
-abbrev pub cutBy : Step → Build.Outcome → ℕ → Outcome
-cutBy step o n =
+abbrev pub cutBy : Step → Build.Outcome → List ℕ → Outcome
+cutBy step o room =
+    let n = length (o .classes) in
     let c = cuttingBy step (o .positions) (n - 3) (wholeRing (o .classes)) in
-    laid (outcomeIf (c .stuck) (c .triangles) (replicate (3 * (n - 2)) 0)) (n - 2)
+    laid (outcomeIf (c .stuck) (c .triangles) room) (n - 2)
 
 -- every vertex of the ring left is classed afresh
 abbrev pub everyAfresh : Step
@@ -159,10 +160,10 @@ abbrev pub oneAfresh : List Float → List ℕ → ℕ → List ℕ → List ℕ
 oneAfresh ps ids k classes = cond (ltb k (length ids)) (reclassify ps ids k classes) classes
 
 abbrev pub twoAfresh : (ℕ → ℕ → ℕ) → (ℕ → ℕ → ℕ) → Step
-twoAfresh at before ps ids i classes = oneAfresh ps ids (before (length ids) i) (oneAfresh ps ids (at (length ids) i) classes)
+twoAfresh at-cut before-cut ps ids i classes = oneAfresh ps ids (before-cut (length ids) i) (oneAfresh ps ids (at-cut (length ids) i) classes)
 
 abbrev pub neighbours : (ℕ → ℕ → ℕ) → (ℕ → ℕ → ℕ) → Step
-neighbours at before ps ids i classes = cond (ltb 3 (length ids)) (twoAfresh at before ps ids i classes) classes
+neighbours at-cut before-cut ps ids i classes = cond (ltb 3 (length ids)) (twoAfresh at-cut before-cut ps ids i classes) classes
 
 -- ---- the five empty programs
 -- the second says outside of every place: of one in a ring of three, in a ring of more, in the full loop, and of one asked of a mute loop
@@ -208,7 +209,7 @@ pub record EmptyPrograms : Type 0 where
 -- ---- the traps
 pub record Traps : Type 0 where
   -- every vertex classed afresh after a cut: no ear would be left
-  pub every-vertex-afresh : cutFrom (built five-positions 5) (replicate 9 0) ≡ cutBy everyAfresh (built five-positions 5) 5 .answer → ⊥
+  pub every-vertex-afresh : cutFrom (built five-positions 5) (replicate 9 0) ≡ cutBy everyAfresh (built five-positions 5) (replicate 9 0) .answer → ⊥
   -- corners classed the first time by `Sphere::side`: the first corner at Y would be convex
   pub first-by-side : built repeated 4 .classes ≡ classesBySide (built repeated 4 .positions) 4 → ⊥
   -- a strict comparison at 10·2^-52: the product of these three is exactly that
@@ -276,15 +277,21 @@ pub record OfCutting : Type 0 where
   pub any-corner : checked (built five-positions 5) (0 ∷ 1 ∷ 2 ∷ 0 ∷ 2 ∷ 3 ∷ 0 ∷ 3 ∷ 4 ∷ []) ≡ answer 1 → ⊥
 
 -- ---- the neighbours of a cut (SCOPE 41)
+-- a ring of five that a cutter leaves otherwise which finds the neighbours at these indexes
+abbrev pub CutsOtherwise : List Float → (ℕ → ℕ → ℕ) → (ℕ → ℕ → ℕ) → Type 0
+CutsOtherwise l at-cut before-cut = cutOutcome (built l 5) (replicate 9 0) ≡ cutBy (neighbours at-cut before-cut) (built l 5) (replicate 9 0) → ⊥
+
 pub record OfNeighbours : Type 0 where
+  -- with the rule itself the cuts are those of the definition, so that what is otherwise below is so by the indexes alone
+  pub by-the-rule : (ps : List Float) (k : ℕ) (s : Remaining) → cuttingBy (neighbours atCut beforeCut) ps k s ≡ cutting ps k s
   -- the one after the cut in place of the one at the cut: no ear would be left
-  pub after-the-cut : cutWhole (built five-positions 5) 5 ≡ cutBy (neighbours (λ m i. (i + 1) % m) beforeCut) (built five-positions 5) 5 → ⊥
+  pub after-the-cut : CutsOtherwise five-positions (λ m i. (i + 1) % m) beforeCut
   -- two before the cut in place of one: (4,0,2) would be the second triangle, and not (2,3,4)
-  pub two-before : cutWhole (built to-and-fro 5) 5 ≡ cutBy (neighbours atCut (λ m i. (i + m - 2) % m)) (built to-and-fro 5) 5 → ⊥
-  -- the one before not counted round at the first index: no ear would be left
-  pub not-round-at-first : cutWhole (built ear-at-first 5) 5 ≡ cutBy (neighbours atCut (λ m i. i - 1)) (built ear-at-first 5) 5 → ⊥
+  pub two-before : CutsOtherwise to-and-fro atCut (λ m i. (i + m - 2) % m)
+  -- the one before not counted round at the first index (0 - 1 is 0, so the first would be classed twice): no ear would be left
+  pub not-round-at-first : CutsOtherwise ear-at-first atCut (λ m i. i - 1)
   -- the one at the cut not counted round after a cut at the last index: (2,3,0) would be the second triangle, and not (3,0,1)
-  pub not-round-at-last : cutWhole (built ear-at-last 5) 5 ≡ cutBy (neighbours (λ m i. i) beforeCut) (built ear-at-last 5) 5 → ⊥
+  pub not-round-at-last : CutsOtherwise ear-at-last (λ m i. i) beforeCut
   -- classing where three are left, which no triangle shows: of X, Y, Z the first would be reflex
   pub where-three-are-left : reclassifyBoth area-1 (0 ∷ 1 ∷ 2 ∷ []) 0 (0 ∷ 0 ∷ 0 ∷ []) ≡ twoAfresh atCut beforeCut area-1 (0 ∷ 1 ∷ 2 ∷ []) 0 (0 ∷ 0 ∷ 0 ∷ []) → ⊥
 

@@ -33,7 +33,7 @@ or-right : (b : Bool) → b || true ≡ true
 or-right true = refl
 or-right false = refl
 
-plus-not-below : (m : ℕ) (e : ℤ) → lt (fin false m e) F.zero ≡ false
+pub plus-not-below : (m : ℕ) (e : ℤ) → lt (fin false m e) F.zero ≡ false
 unfolding lt ofBits
 plus-not-below m e = is-false (ltb (m * up e * 1) (0 * 1 * down e)) (λ (t : T (ltb (m * up e * 1) (0 * 1 * down e))). omega (arith, ltb→lt (m * up e * 1) (0 * 1 * down e) t))
 
@@ -53,7 +53,7 @@ over-minus : (e : ℤ) → lt (div binary64 F.one (fin true zero e)) F.zero ≡ 
 unfolding div lt ofBits
 over-minus e = refl
 
-below-zero : (m : ℕ) (e : ℤ) → lt (fin true (suc m) e) F.zero ≡ true
+pub below-zero : (m : ℕ) (e : ℤ) → lt (fin true (suc m) e) F.zero ≡ true
 unfolding lt ofBits
 below-zero m e = is-true (ltb 0 (suc m * up e * 1 + 0 * 1 * down e)) (lt→ltb 0 (suc m * up e * 1 + 0 * 1 * down e) (more (suc m * up e) (0 * 1 * down e) (mul-pos (zero-lt-suc m) (up-pos e))))
   where

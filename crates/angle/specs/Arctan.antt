@@ -1,4 +1,4 @@
--- SCOPE 6: the arctangent of two arguments, our own, over the float operations. Definitions only.
+-- SCOPE 6: the arctangent of two arguments, our own, over the float operations. How near it is to the exact angle is SCOPE 43 (`exact_angles`). Definitions only.
 -- For 0 ≤ t ≤ 1 it is Euler's series: atan t = t / (1 + t²) * Σ cₖ yᵏ with y = t² / (1 + t²), cₖ = 2/3 * 4/5 * .. * 2k/(2k+1), summed to k = 48.
 use mathlib.Core.Bool.{Bool, cond, _||_}
 use mathlib.Core.List.{List, [], _∷_}

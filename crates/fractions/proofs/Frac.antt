@@ -50,7 +50,7 @@ div-at w an ad bn bd cn cd dn dd e f h k o l =
     sum4 x u v a a' b b' p q r t = omega arith
 
 -- the differences, x and y, with x = an cd - cn ad and so on
-sub-mul : (a c u : ℕ) → (a - c) * u ≡ a * u - c * u
+pub sub-mul : (a c u : ℕ) → (a - c) * u ≡ a * u - c * u
 sub-mul a c u = mul-comm (a - c) u ∙ mul-sub u a c ∙ ap₂ (λ (x y : ℕ). x - y) (mul-comm u a) (mul-comm u c)
 
 sub-at : (w an ad bn bd cn cd dn dd e f : ℕ)

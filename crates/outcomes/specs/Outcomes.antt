@@ -17,3 +17,8 @@ One {n} ps r Post =
 -- SCOPE 27: no two answers have the same number and values
 abbrev pub OneToOne : {A B : Type 0} → (A → B) → Type 0
 OneToOne {A} told = (x y : A) → told x ≡ told y → x ≡ y
+
+-- Whatever answer meets the contract, P holds of the arguments and of it.
+abbrev pub EachAnswer : {n : ℕ} (ps : List (PK n)) (r : RK n) → Out n ps r → ((κs : Lfts n) → Dens κs ps → resT r κs .Denot → Type 0) → Type 0
+EachAnswer {n} ps r Post P =
+    (κs : Lfts n) (a : Dens κs ps) (x : resT r κs .Denot) (v : Lasts (endedOf n ps r) κs a) → Post κs a x (atExit (endedOf n ps r) κs a v) → P κs a x

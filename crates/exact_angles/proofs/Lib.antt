@@ -1,0 +1,14 @@
+pub mod Horner
+pub mod Sharp
+pub mod Ends
+pub mod Shut
+pub mod Close
+pub mod Plane
+pub mod Signs
+pub mod Adds
+pub mod Total
+pub mod Sane
+pub mod Leibniz
+pub mod Uncut
+pub mod Honest
+pub mod Answers

@@ -1,0 +1,4 @@
+pub mod Exact
+pub mod Gregory
+pub mod Steady
+pub mod Answers

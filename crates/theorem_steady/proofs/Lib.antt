@@ -1,0 +1,4 @@
+pub mod Turned
+pub mod Finite
+pub mod Loops
+pub mod Theorem

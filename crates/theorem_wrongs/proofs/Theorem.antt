@@ -32,6 +32,7 @@ use Rattle.loop_relate.specs.Relations.{relateAnswer}
 use Rattle.theorem_settled.specs.Settled.{at, built, blank, blank-classes, area-1, four-corners, four-built, four-checked, full-one, empty-one, related}
 use Rattle.theorem_settled.proofs.Computing as Computing
 use Rattle.theorem_wrongs.proofs.Computing.{of-places, of-pairs}
+use Rattle.theorem_wrongs.proofs.Angles.{of-angles}
 use Rattle.theorem_wrongs.proofs.Cutters.{by-the-rule}
 use Rattle.theorem_wrongs.proofs.Rings.{ring, area-1-built, area-2-built, across-built, in-the-other-built, in-the-one-built}
 use Rattle.theorem_wrongs.proofs.Rings.{one-mean-built, round-z-built, repeated-built, four-corners-built, five-positions-built, to-and-fro-built, ear-at-first-built, ear-at-last-built}
@@ -290,6 +291,7 @@ wrongs = record {
   empty-programs = empty-programs;
   traps = traps;
   of-numbers = of-numbers;
+  of-angles = of-angles;
   of-building = of-building;
   of-asking = of-asking;
   of-cutting = of-cutting;

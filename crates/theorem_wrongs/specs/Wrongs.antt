@@ -36,6 +36,7 @@ use Rattle.loop_ask.specs.Questions.{placeAnswer}
 use Rattle.loop_triangles.proofs.triangulate as Triangulate
 use Rattle.loop_triangles.specs.Triangles.{toldCut, Outcome, laid, triangulateOutcome, acceptsAnswer}
 use Rattle.loop_relate.specs.Relations.{relateAnswer}
+use Rattle.theorem_wrongs.specs.Angles.{OfAngles}
 use Rattle.theorem_settled.specs.Settled.{six-tenths, eight-tenths, minus-six-tenths, at, built, blank, blank-classes, area-1, flat-list, headerOf, four-built, four-cut, four-checked, full-one, empty-one, related}
 
 -- ---- the inputs
@@ -342,6 +343,7 @@ pub record Wrongs : Type 0 where
   pub empty-programs : EmptyPrograms
   pub traps : Traps
   pub of-numbers : OfNumbers
+  pub of-angles : OfAngles
   pub of-building : OfBuilding
   pub of-asking : OfAsking
   pub of-cutting : OfCutting

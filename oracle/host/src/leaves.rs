@@ -69,30 +69,69 @@ fn atan_nans(t: &mut Tally, r: &mut Random, n: usize) {
     }
 }
 
+/// Where the definition goes by cases, and the ends of the range.
+#[rustfmt::skip]
+const SPECIAL: [f64; 18] = [
+    0.0, -0.0, 1.0, -1.0, f64::INFINITY, f64::NEG_INFINITY, f64::NAN, f64::MAX, f64::MIN, f64::MIN_POSITIVE, 5e-324, -5e-324,
+    0.5, 2.0, 1e-163, -1e-163, 1e300, EPS,
+];
+
+/// A pair of any bits, of nearly equal sizes, of exponents near each other, or of a sine and its cosine.
+fn pair(r: &mut Random) -> (f64, f64) {
+    match r.below(5) {
+        0 => (f64::from_bits(r.bits()), f64::from_bits(r.bits())),
+        1 => {
+            let y = r.spread(-1000, 1000);
+            let off = r.below(9) as i64 - 4;
+            let x = nudge(y, off);
+            (y, if r.chance(2) { -x } else { x })
+        }
+        2 => {
+            let y = r.spread(-500, 500);
+            (y, y * r.spread(-60, 60))
+        }
+        _ => {
+            let a = r.between(-4.0, 4.0);
+            (a.sin(), a.cos())
+        }
+    }
+}
+
+/// A subnormal of any count of bits, or zero.
+fn subnormal(r: &mut Random) -> f64 {
+    f64::from_bits(r.bits() >> (12 + r.below(53)) | (r.bits() & 1) << 63)
+}
+
+/// A pair as above, or with a special number, a subnormal or a multiple of an eighth circle, where the definition goes by cases.
+fn pair_by_cases(r: &mut Random) -> (f64, f64) {
+    let (y, x) = match r.below(12) {
+        0 => (*r.pick(&SPECIAL), *r.pick(&SPECIAL)),
+        1 => (*r.pick(&SPECIAL), r.spread(-1074, 1023)),
+        2 => (subnormal(r), subnormal(r)),
+        3 => (subnormal(r), r.spread(-1074, -960)),
+        4 => {
+            let a = std::f64::consts::FRAC_PI_4 * r.below(9) as f64 + r.spread(-60, -2);
+            (a.sin(), a.cos())
+        }
+        _ => return pair(r),
+    };
+    if r.chance(2) { (x, y) } else { (y, x) }
+}
+
+/// A pair of finite floats: what has an exact angle.
+pub fn finite_pair(r: &mut Random) -> (f64, f64) {
+    loop {
+        let (y, x) = pair_by_cases(r);
+        if y.is_finite() && x.is_finite() {
+            return (y, x);
+        }
+    }
+}
+
 /// Pairs over all exponents, zeros of both signs, near-equal ones, infinities and NaN.
 pub fn atan(t: &mut Tally, r: &mut Random, n: usize) {
-    let special = [
-        0.0,
-        -0.0,
-        1.0,
-        -1.0,
-        f64::INFINITY,
-        f64::NEG_INFINITY,
-        f64::NAN,
-        f64::MAX,
-        f64::MIN,
-        f64::MIN_POSITIVE,
-        5e-324,
-        -5e-324,
-        0.5,
-        2.0,
-        1e-163,
-        -1e-163,
-        1e300,
-        EPS,
-    ];
-    for y in special {
-        for x in special {
+    for y in SPECIAL {
+        for x in SPECIAL {
             put_atan(t, y, x);
         }
         for _ in 0..200 {
@@ -102,24 +141,8 @@ pub fn atan(t: &mut Tally, r: &mut Random, n: usize) {
         }
     }
     for _ in 0..n {
-        match r.below(5) {
-            0 => put_atan(t, f64::from_bits(r.bits()), f64::from_bits(r.bits())),
-            1 => {
-                let y = r.spread(-1000, 1000);
-                let off = r.below(9) as i64 - 4;
-                let x = nudge(y, off);
-                put_atan(t, y, if r.chance(2) { -x } else { x });
-            }
-            2 => {
-                let y = r.spread(-500, 500);
-                let x = y * r.spread(-60, 60);
-                put_atan(t, y, x);
-            }
-            _ => {
-                let a = r.between(-4.0, 4.0);
-                put_atan(t, a.sin(), a.cos());
-            }
-        }
+        let (y, x) = pair(r);
+        put_atan(t, y, x);
     }
     atan_nans(t, r, n);
 }

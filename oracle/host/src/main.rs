@@ -4,6 +4,7 @@ mod bench;
 mod calls;
 mod constants;
 mod cuts;
+mod exact;
 mod leaves;
 mod linked;
 mod mutants;

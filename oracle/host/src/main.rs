@@ -16,6 +16,7 @@ mod rings;
 mod scenes;
 mod shapes;
 mod tally;
+mod turns;
 
 use calls::Export;
 use port::Port;
@@ -36,7 +37,7 @@ host bench                       nanoseconds of both and their ratio
 host repeat WHO WHAT SHAPE N TIMES   one call over and over, for a profile (ours or rust; star or convex)";
 
 /// The groups, with the exports that they need one of.
-const GROUPS: [(&str, &[Export]); 12] = [
+const GROUPS: [(&str, &[Export]); 13] = [
     ("root", &[Export::Root]),
     ("atan", &[Export::Atan2]),
     ("leaves", &[Export::LeafVec, Export::LeafNumber, Export::LeafCase, Export::LeafCap]),
@@ -53,6 +54,7 @@ const GROUPS: [(&str, &[Export]); 12] = [
         ],
     ),
     ("build", &[Export::Build, Export::BuildF64]),
+    ("turns", &[Export::BuildF64]),
     ("place", &[Export::Place, Export::PlaceF64]),
     ("triangles", &[Export::Triangles, Export::TrianglesF64, Export::FullPositions]),
     ("accepts", &[Export::Accepts]),
@@ -103,6 +105,7 @@ fn feed(group: &str, t: &mut Tally, r: &mut Random, n: usize) {
         "caps" => leaves::bounding_caps(t, r, n),
         "arcs" => arcs::arcs(t, r, n),
         "build" => rings::build(t, r, n),
+        "turns" => turns::turns(t, r, n),
         "place" => rings::place(t, r, n),
         "triangles" => rings::triangles(t, r, n),
         "accepts" => rings::accepts(t, r, n),
@@ -114,7 +117,7 @@ fn feed(group: &str, t: &mut Tally, r: &mut Random, n: usize) {
 
 fn record(file: &str, wanted: usize) {
     let mut calls = Vec::new();
-    for (group, _) in GROUPS.iter().filter(|g| !["scene", "leaves", "caps"].contains(&g.0)) {
+    for (group, _) in GROUPS.iter().filter(|g| !["scene", "leaves", "caps", "turns"].contains(&g.0)) {
         let mut t = Tally::only_filled();
         feed(group, &mut t, &mut Random::new(1), wanted * 4);
         calls.extend(t.drain());

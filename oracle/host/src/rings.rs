@@ -67,7 +67,8 @@ fn damaged_list(r: &mut Random, list: &[P]) -> Vec<P> {
     list
 }
 
-fn opened(list: &[P]) -> usize {
+/// How many corners the list needs room for.
+pub fn opened(list: &[P]) -> usize {
     let n = if !list.is_empty() && list.first() == list.last() { list.len() - 1 } else { list.len() };
     if n < 3 { 0 } else { n }
 }
@@ -98,16 +99,18 @@ fn put_build(t: &mut Tally, r: &mut Random, list: &[P]) {
             _ => {}
         }
     }
-    t.put(
-        Export::BuildF64,
-        vec![
-            Arg::Floats(f),
-            Arg::OutBytes(blank(sizes[0])),
-            Arg::OutFloats(blank_floats(sizes[1])),
-            Arg::OutFloats(blank_floats(sizes[2])),
-            Arg::OutBytes(blank(sizes[3])),
-        ],
-    );
+    t.put(Export::BuildF64, build_f64(f, sizes));
+}
+
+/// A list, and room of these sizes for the header, the positions, the normals and the classes.
+pub fn build_f64(list: Vec<f64>, sizes: [usize; 4]) -> Vec<Arg> {
+    vec![
+        Arg::Floats(list),
+        Arg::OutBytes(blank(sizes[0])),
+        Arg::OutFloats(blank_floats(sizes[1])),
+        Arg::OutFloats(blank_floats(sizes[2])),
+        Arg::OutBytes(blank(sizes[3])),
+    ]
 }
 
 /// Whether the list is in the domain: and a steady loop's direction must be the Rust's own.

@@ -18,6 +18,7 @@ pub struct Tally {
     pub differences: u64,
     differing: BTreeMap<String, u64>,
     pub farthest: f64,
+    most: BTreeMap<String, f64>,
 }
 
 const REFUSED: u64 = 65_536;
@@ -141,6 +142,7 @@ impl Tally {
             differences: 0,
             differing: BTreeMap::new(),
             farthest: 0.0,
+            most: BTreeMap::new(),
         }
     }
 
@@ -163,6 +165,14 @@ impl Tally {
         *self.notes.entry(what.to_string()).or_default() += 1;
     }
 
+    /// Keeps the greatest of its kind, to be printed as a power of two.
+    pub fn keep_most(&mut self, what: &str, size: f64) {
+        match self.most.get_mut(what) {
+            Some(most) => *most = most.max(size),
+            None => drop(self.most.insert(what.to_string(), size)),
+        }
+    }
+
     pub fn put(&mut self, export: Export, args: Vec<Arg>) {
         self.put_as(export, args, "");
     }
@@ -177,15 +187,23 @@ impl Tally {
     }
 
     pub fn flush(&mut self) {
-        let Some(port) = &mut self.port else { return };
-        let waiting = std::mem::take(&mut self.waiting);
-        self.size = 0;
-        let calls: Vec<Call> = waiting.iter().map(|w| w.0.clone()).collect();
-        let answers = port.run(&calls);
-        for ((call, from), port) in waiting.iter().zip(answers) {
-            let Some(port) = port else { continue };
-            self.compare(call, from, &port);
+        if self.port.is_some() {
+            let waiting = std::mem::take(&mut self.waiting);
+            self.size = 0;
+            let (calls, from): (Vec<Call>, Vec<String>) = waiting.into_iter().unzip();
+            self.ask(&calls, &from);
         }
+    }
+
+    /// Puts calls to the port at once, compares, and returns its answers, for what has more to be said of them than that they are the model's.
+    pub fn ask(&mut self, calls: &[Call], from: &[String]) -> Vec<Option<Answer>> {
+        let answers = self.port.as_mut().expect("a port to ask").run(calls);
+        for ((call, from), port) in calls.iter().zip(from).zip(&answers) {
+            if let Some(port) = port {
+                self.compare(call, from, port);
+            }
+        }
+        answers
     }
 
     fn compare(&mut self, call: &Call, from: &str, port: &Answer) {
@@ -265,6 +283,9 @@ impl Tally {
         }
         if self.farthest > 0.0 {
             println!("  (farthest angle from the Rust's: 2^{:.2})", self.farthest.log2());
+        }
+        for (k, most) in &self.most {
+            println!("  ({k}: 2^{:.2})", most.log2());
         }
         self.differences == 0
     }

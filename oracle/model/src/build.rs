@@ -1,5 +1,5 @@
 //! Building, by the source's own steps; the direction and the marks by the port's own arctangent.
-use crate::leaves::turning;
+use crate::leaves::{sine, turning};
 use crate::loops::{EMPTY, FULL, INSIDES, RING};
 use crate::read::{HEADER, Judged, MOST, answer, floats, positions, put, refuse_if};
 use jord::spherical::sloop::probe as sloop;
@@ -26,6 +26,19 @@ pub struct Built {
 fn turn_sum(edges: &[MinorArc], turn: impl Fn(MinorArc, MinorArc) -> f64) -> f64 {
     let n = edges.len();
     (0..n).fold(0.0, |sum, i| sum + turn(edges[i], edges[(i + 1) % n]))
+}
+
+/// The computed sine and cosine of each turn, in the order of the turn sum; of a list that makes no ring, none.
+pub fn turn_pairs(list: &[NVector]) -> Vec<(f64, f64)> {
+    let opened = sloop::opened(list);
+    if opened.len() < 3 {
+        return Vec::new();
+    }
+    let (edges, _) = sloop::to_edges(opened);
+    let n = edges.len();
+    let pair =
+        |a: MinorArc, b: MinorArc| (sine(a.normal(), b.normal(), a.end().as_vec3()), a.normal().dot_prod(b.normal()));
+    (0..n).map(|i| pair(edges[i], edges[(i + 1) % n])).collect()
 }
 
 fn of_state(state: u8, turns: Option<(f64, f64)>, weak: bool) -> Built {

@@ -133,36 +133,44 @@ fn judge_angle(t: &mut Tally, call: &Call, port: &Answer) -> Between {
     exact
 }
 
-/// A loop by the header that the port wrote: a steady ring's exact sum must lie wholly on the side that `reversed` says.
+/// A loop by the header that the port wrote: its marks must be those of the sum of its angles, and a steady ring's exact sum must lie wholly on the side
+/// that `reversed` says.
 fn judge_loop(t: &mut Tally, family: &str, call: &Call, port: &Answer, sum: f64, exact: Between) {
     let header = &port.outs[0];
-    let (reversed, weak) = (header[3] & 1 != 0, header[3] & 2 != 0);
-    match header[2] {
-        0 => return t.note(&format!("{family}: empty")),
-        1 => t.note(&format!("{family}: full")),
-        _ if weak => t.note(&format!("{family}: weak")),
-        _ => t.note(&format!("{family}: steady")),
+    let (reversed, weak, ring) = (header[3] & 1 != 0, header[3] & 2 != 0, header[2] == 2);
+    let kind = match header[2] {
+        0 => "empty",
+        1 => "full",
+        _ if weak => "weak",
+        _ => "steady",
+    };
+    t.note(&format!("{family}: {kind}"));
+    if header[2] == 0 {
+        return;
     }
-    if weak {
-        match exact.is_below() {
-            None => t.note("a weak sum whose exact one may have either sign"),
-            Some(below) if below != (sum < 0.0) => t.note("a weak sum whose exact one has the other sign"),
-            _ => {}
-        }
-    } else if header[2] == 2 {
-        if exact.is_below() != Some(!reversed) {
-            let mut expected = port.clone();
-            expected.outs[0][3] ^= 1;
-            t.differ(call, "a steady loop is not turned by the sign of the exact sum", &expected, port);
-        } else if (STEADY..NEAR).contains(&sum.abs()) {
-            t.note(&format!("{family}: steady, below 2^-25, by the sign of the exact sum"));
-        }
+    let marks = u8::from(ring && sum >= 0.0) | u8::from(sum.abs() < STEADY) << 1;
+    if header[3] & 3 != marks {
+        differ(t, call, "the marks are not those of the sum of its angles", port, header[3] & !3 | marks);
+    }
+    if ring && !weak && exact.is_below() != Some(!reversed) {
+        differ(t, call, "a steady loop is not turned by the sign of the exact sum", port, header[3] ^ 1);
+    } else if ring && (STEADY..NEAR).contains(&sum.abs()) {
+        t.note(&format!("{family}: steady, below 2^-25, turned by the sign of the exact sum"));
+    }
+    if weak && exact.is_below() != Some(sum < 0.0) {
+        let either = if exact.is_below().is_none() { "may have either sign" } else { "has the other sign" };
+        t.note(&format!("a weak turn sum, and the exact one {either}"));
     }
 }
 
-fn judge(t: &mut Tally, input: &Input, answers: &[Option<Answer>]) {
-    let answers: Option<Vec<&Answer>> = answers.iter().map(Option::as_ref).collect();
-    let Some(answers) = answers else { return };
+/// A difference in the marks.
+fn differ(t: &mut Tally, call: &Call, from: &str, port: &Answer, marks: u8) {
+    let mut expected = port.clone();
+    expected.outs[0][3] = marks;
+    t.differ(call, from, &expected, port);
+}
+
+fn judge(t: &mut Tally, input: &Input, answers: &[Answer]) {
     let last = input.calls.len() - 1;
     let (mut sum, mut exact) = (0.0, Between::ZERO);
     for (call, port) in input.calls[1..last].iter().zip(&answers[1..last]) {
@@ -170,13 +178,13 @@ fn judge(t: &mut Tally, input: &Input, answers: &[Option<Answer>]) {
         sum += f64::from_bits(port.value);
         t.note("turns measured");
     }
-    judge_angle(t, &input.calls[last], answers[last]);
+    judge_angle(t, &input.calls[last], &answers[last]);
     t.note("pairs of no list measured");
     if let Some(sum) = exact::number(sum) {
         t.keep_most("farthest turn sum from the exact one", in_units(exact.farthest(sum)));
     }
     if answers[0].value < 65_536 {
-        judge_loop(t, input.family, &input.calls[0], answers[0], sum, exact);
+        judge_loop(t, input.family, &input.calls[0], &answers[0], sum, exact);
     }
 }
 
@@ -184,7 +192,9 @@ pub fn turns(t: &mut Tally, r: &mut Random, n: usize) {
     for first in (0..n).step_by(AT_ONCE) {
         let inputs: Vec<Input> = (first..n.min(first + AT_ONCE)).map(|_| input(r)).collect();
         let calls: Vec<Call> = inputs.iter().flat_map(|i| i.calls.iter().cloned()).collect();
-        let answers = t.ask(&calls, &vec![String::new(); calls.len()]);
+        let from: Vec<String> = inputs.iter().flat_map(|i| i.calls.iter().map(|_| i.family.to_string())).collect();
+        let answers: Option<Vec<Answer>> = t.ask(&calls, &from).into_iter().collect();
+        let answers = answers.expect("the port builds and has an arctangent");
         let mut rest = answers.as_slice();
         for input in &inputs {
             let (these, after) = rest.split_at(input.calls.len());

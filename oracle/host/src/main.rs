@@ -27,6 +27,7 @@ use tally::Tally;
 const USAGE: &str = "\
 host constants                   the numbers that the port records
 host compare GROUP [N] [SEED]    N inputs of a group (or all) to both sides; exit status 1 on a difference
+host compare turns [N] [SEED]    among them: angles and the directions of steady loops, beside exact angles in whole numbers
 host groups                      the groups whose exports are there
 host record FILE [N]             about N recorded answers an export, for the program `test_replay`
 host rings INPUT OUTPUT          the samples of the program `test_cuts`, and what the source says of them

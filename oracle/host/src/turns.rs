@@ -7,11 +7,13 @@ use crate::random::{P, Random, add, along, cross, frame, list_floats, scale, uni
 use crate::rings::{HEADER, build_f64, opened};
 use crate::shapes;
 use crate::tally::Tally;
-use model::build::{STEADY, judge_list, turn_pairs};
+use model::build::{judge_list, turn_pairs};
 use std::f64::consts::TAU;
 
 /// How far an angle may be from the exact one, in units: 2^-45.
 const FAR: i128 = 1 << (UNITS - 45);
+/// The border of weak (SCOPE 6), not taken from the model, which is judged here too.
+const STEADY: f64 = 1.0 / (1u64 << 30) as f64;
 /// Steady turn sums below this size are counted by themselves.
 const NEAR: f64 = 1.0 / (1u64 << 25) as f64;
 /// Inputs that are put to the port at once.

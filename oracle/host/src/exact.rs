@@ -1,8 +1,10 @@
-//! The exact angle of a pair of finite floats, held between two whole numbers of 2^-62. Nothing here is float arithmetic, so that it can judge angles
-//! that are made of nothing else. Every step rounds outward: what leads to the lower end down, what leads to the upper end up.
+//! The exact angle of a pair of finite floats, held between two whole numbers of 2^-62. Nothing here is float arithmetic, so
+//! that it can judge angles that are made of nothing else. Every step rounds outward: what leads to the lower end down, what
+//! leads to the upper end up.
 //!
 //! Euler's series, for a slope t of at most 1: with z = 1 + t² and y = t²/z, atan t = t/z (c_0 + c_1 y + c_2 y² + ..), where
-//! c_k = 2/3 * 4/5 * .. * 2k/(2k+1). All terms are positive, so that ends of the slope give ends of the angle.
+//! c_k = 2/3 * 4/5 * .. * 2k/(2k+1). The angle rises with the slope, and no term is negative: so the ends of a slope give the
+//! ends of its angle, step by step.
 
 /// Angles are counted in units of 2^-62: products of two numbers below 2 then fit 128 bits.
 pub const UNITS: u32 = 62;
@@ -68,8 +70,8 @@ const fn coefficients(up: bool) -> [u128; LAST + 1] {
     c
 }
 
-/// The sum of the c_k y^k, from the last term back. What is left out is at most the last term in, since y is at most 1/2 and c falls: the upper end has
-/// that term twice.
+/// The sum of the c_k y^k, from the last term back. What is left out is at most the last term in, since y is at most 1/2 and
+/// c falls: the upper end has that term twice.
 const fn series(y: u128, up: bool) -> u128 {
     let c = if up { &HIGH } else { &LOW };
     let mut sum = if up { 2 * c[LAST] } else { c[LAST] };
@@ -102,7 +104,7 @@ fn slope(p: f64, q: f64, up: bool) -> u128 {
     if n == 0 {
         return 0;
     }
-    // e is not above f, as p is not above q. The first quotient is below 2^115: farther apart than 127, nothing changes.
+    // e is not above f, as p is not above q. The first quotient is below 2^116: from 127 on, nothing changes any more.
     quotient(quotient(m << UNITS, n, up), 1 << (f - e).min(127), up)
 }
 
@@ -188,7 +190,7 @@ mod tests {
         }
     }
 
-    /// Any pair: the interval is narrow and holds the nearest of what the machine's arctangent gives; mirrored, the mirrored one.
+    /// Any pair: the ends are near each other and within 2^-50 of the machine's arctangent; mirrored, the mirrored ends.
     #[test]
     fn any_pair() {
         let mut r = Random::new(7);

@@ -72,8 +72,8 @@ fn atan_nans(t: &mut Tally, r: &mut Random, n: usize) {
 /// Where the definition goes by cases, and the ends of the range.
 #[rustfmt::skip]
 const SPECIAL: [f64; 18] = [
-    0.0, -0.0, 1.0, -1.0, f64::INFINITY, f64::NEG_INFINITY, f64::NAN, f64::MAX, f64::MIN, f64::MIN_POSITIVE, 5e-324, -5e-324,
-    0.5, 2.0, 1e-163, -1e-163, 1e300, EPS,
+    0.0, -0.0, 1.0, -1.0, f64::INFINITY, f64::NEG_INFINITY, f64::NAN, f64::MAX, f64::MIN, f64::MIN_POSITIVE,
+    5e-324, -5e-324, 0.5, 2.0, 1e-163, -1e-163, 1e300, EPS,
 ];
 
 /// A pair of any bits, of nearly equal sizes, of exponents near each other, or of a sine and its cosine.
@@ -102,7 +102,8 @@ fn subnormal(r: &mut Random) -> f64 {
     f64::from_bits(r.bits() >> (12 + r.below(53)) | (r.bits() & 1) << 63)
 }
 
-/// A pair as above, or with a special number, a subnormal or a multiple of an eighth circle, where the definition goes by cases.
+/// A pair as above, or one with a special number, with a subnormal, or near a multiple of an eighth circle, where the
+/// definition goes by cases.
 fn pair_by_cases(r: &mut Random) -> (f64, f64) {
     let (y, x) = match r.below(12) {
         0 => (*r.pick(&SPECIAL), *r.pick(&SPECIAL)),

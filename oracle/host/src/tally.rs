@@ -195,7 +195,8 @@ impl Tally {
         }
     }
 
-    /// Puts calls to the port at once, compares, and returns its answers, for what has more to be said of them than that they are the model's.
+    /// Puts calls to the port at once, compares, and returns its answers, of which there may be more to say than that they are
+    /// the model's.
     pub fn ask(&mut self, calls: &[Call], from: &[String]) -> Vec<Option<Answer>> {
         let answers = self.port.as_mut().expect("a port to ask").run(calls);
         for ((call, from), port) in calls.iter().zip(from).zip(&answers) {

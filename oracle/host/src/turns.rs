@@ -1,5 +1,5 @@
-//! Runs over turns: each angle of the port beside the exact one, and the direction of its steady loops beside the sign of the exact sum.
-//! Near a turn sum of 0 that sign is hardest to have, so most lists are made to come near it.
+//! Runs over turns: each angle of the port beside the exact one, and the direction of its steady loops beside the sign of the
+//! exact sum. Near a turn sum of 0 that sign is hardest to have, so most lists are made to come near it.
 use crate::calls::{Answer, Arg, Call, Export};
 use crate::exact::{self, Between, UNITS};
 use crate::leaves::finite_pair;
@@ -36,7 +36,8 @@ fn any(r: &mut Random) -> Vec<P> {
     shapes::any(r, n)
 }
 
-/// Nearly half of the sphere lies on either side: round a great circle, each corner off it a little, so that the turns nearly cancel.
+/// Nearly half of the sphere lies on either side: round a great circle, each corner off it a little, so that the turns
+/// nearly cancel.
 fn half_sphere(r: &mut Random) -> Vec<P> {
     let n = length(r);
     let pole = if r.chance(3) { r.round() } else { r.unit() };
@@ -56,7 +57,8 @@ fn half_sphere(r: &mut Random) -> Vec<P> {
     (0..n).map(&mut corner).collect()
 }
 
-/// Out along an arc and back beside it. Mostly the way back crosses it in the middle: the turns at both ends are half circles, one to each side.
+/// Out along an arc and back beside it. Mostly the way back crosses it in the middle: then the turns at the ends are about half
+/// circles, one to each side.
 fn thin(r: &mut Random) -> Vec<P> {
     let n = length(r);
     let (a, apart) = (r.position(), r.spread(-6, 0).abs());
@@ -90,7 +92,8 @@ fn eight(r: &mut Random) -> Vec<P> {
     (0..n).map(corner).collect()
 }
 
-/// A list of a family, and the calls for it: the list itself, the pair of each of its turns in order, and one pair more that is of no list.
+/// A list of a family, and the calls for it: the list itself, the pair of each of its turns in order, and one pair more that
+/// is of no list.
 struct Input {
     family: &'static str,
     calls: Vec<Call>,
@@ -135,8 +138,8 @@ fn judge_angle(t: &mut Tally, call: &Call, port: &Answer) -> Between {
     exact
 }
 
-/// A loop by the header that the port wrote: its marks must be those of the sum of its angles, and a steady ring's exact sum must lie wholly on the side
-/// that `reversed` says.
+/// A loop by the header that the port wrote: its marks must be those of the sum of its angles, and a steady ring's exact sum
+/// must lie wholly on the side that `reversed` says.
 fn judge_loop(t: &mut Tally, family: &str, call: &Call, port: &Answer, sum: f64, exact: Between) {
     let header = &port.outs[0];
     let (reversed, weak, ring) = (header[3] & 1 != 0, header[3] & 2 != 0, header[2] == 2);

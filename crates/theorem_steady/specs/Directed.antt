@@ -35,7 +35,7 @@ pub record SteadyLoops : Type 0 where
   pub turn-sum-is : (l : List Float) (n : ℕ) → turnSum l n .0 ≡ total F64.zero (turnPairs l n)
   -- of positions of which none is refused every sine and every cosine is finite
   pub all-aimed : (l : List Float) (n : ℕ) → positionsFault l n ≡ 0 → AllAimed (turnPairs l n)
-  -- SCOPE 44: where the sum is not weak it is below 0 exactly if the exact sum is
+  -- SCOPE 44: where the sum is not weak, the exact sum is on its side of 0: below it where the list is kept, above it where it is reversed
   pub steady-kept : (l : List Float) (n : ℕ) → n ≤ 512 → positionsFault l n ≡ 0 → weak (turnSum l n) ≡ false → clockwise (turnSum l n) ≡ true → SumBelow l n
   pub steady-reversed : (l : List Float) (n : ℕ) → n ≤ 512 → positionsFault l n ≡ 0 → weak (turnSum l n) ≡ false → clockwise (turnSum l n) ≡ false → SumAbove l n
   -- SCOPE 45: of every list and lent slices, from the answer alone. Of EMPTY and FULL nothing is said: their `reversed` is false by SCOPE 15.

@@ -51,12 +51,12 @@ exchanged [] = []
 exchanged (p ∷ ps) = record { y = p .x; x = p .y } ∷ exchanged ps
 
 pub record OfAngles : Type 0 where
-  -- a bound of 2^-52: the angle of (-10, 2) is farther from the exact one
+  -- a bound of 2^-52: the angle of (-10, 2) is farther from the exact one, which its 60th ends tell, for they are within 7/2^60 of each other
   pub bound-of-52 : AlwaysNear 52 → ⊥
   -- two zeros whose exact angle is π/4; the definition's is near the float angle
   pub two-zeros-at-a-quarter : Within 45 (atan2 F64.zero F64.zero) false quarter → ⊥
   pub two-zeros : (s t : Bool) (e d : ℤ) → Within 45 (atan2 (fin s 0 e) (fin t 0 d)) s (exactOf t 0 e 0 d)
-  -- a turn sum that is weak below 2^-60 only
+  -- a turn sum that is weak below 2^-60 only: of a float sum of 2^-53 the exact one is 0
   pub mark-of-60 : Decides 60 48 → ⊥
   -- the sign promised from the first partial sums on
   pub from-the-first-ends : Decides 30 0 → ⊥

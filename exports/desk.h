@@ -201,8 +201,8 @@ uint32_t desk_triangles_f64(const uint8_t *header, size_t header_len, const doub
 
 /* The square root, correctly rounded; a negative number gives NaN. */
 uint64_t desk_root(uint64_t b);
-/* The angle of (x, y) in radians. For finite x and y that are not both zero it is proved to be within 2^-45 of the exact
-   angle; runs hold it to the C library's atan2 within as much. y = 0.0 with x = NaN gives 0.0, and y = -0.0 gives -0.0. */
+/* The angle of (x, y) in radians, by an arctangent that is proved to be within 2^-45 of the exact angle for finite x and y that
+   are not both zero; runs hold it to the C library's atan2 within as much. y = 0.0 with x = NaN gives 0.0, y = -0.0 gives -0.0. */
 uint64_t desk_atan2(uint64_t y, uint64_t x);
 
 #ifdef __cplusplus

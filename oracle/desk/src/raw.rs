@@ -61,7 +61,7 @@ macro_rules! exports {
 exports! {
     /// The square root of f64 bits.
     has_desk_root desk_root(b: word) -> u64;
-    /// The angle of (x, y), in f64 bits; within 2^-45 of the exact one where both are finite and not both zero.
+    /// The angle of (x, y), in f64 bits: see desk.h for how near it is to the exact one.
     has_desk_atan2 desk_atan2(y: word, x: word) -> u64;
     /// Builds a loop: the count.
     has_desk_build desk_build(list: bytes, out: out_bytes) -> u32;

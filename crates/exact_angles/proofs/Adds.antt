@@ -121,9 +121,6 @@ step s t u m n e d N j l h k =
     (spos-add (signedOf (fin s m e)) (signedOf (fin t n d)) (signed-pos (fin s m e)) (signed-pos (fin t n d))) k
     (round-snear u N (down e * down d) j (mul-pos (down-pos e) (down-pos d)) l h)
 
-less-than : (a b w : ℕ) → a + b ≤ w → a - b ≤ w
-less-than a b w h = omega arith
-
 back : (a b : ℕ) → b ≤ a → a - b + b ≡ a
 back a b h = omega arith
 

@@ -7,6 +7,7 @@ pub mod Plane
 pub mod Signs
 pub mod Adds
 pub mod Total
+pub mod Sums
 pub mod Sane
 pub mod Leibniz
 pub mod Uncut

@@ -5,7 +5,7 @@ use native.Mathlib.Nat.{mul-pos, le-of-mul-le-mul-right}
 use native.Mathlib.Omega.{arith}
 use Rattle.fractions.specs.Frac.{Frac, _⊞_}
 use Rattle.exact_angles.specs.Steady.{Signed, _⊹_}
-use Rattle.fractions.proofs.Order.{Same, same-le}
+use Rattle.fractions.proofs.Order.{Same, same-le, interchange}
 use Rattle.fractions.proofs.Frac.{Le, Pos, le-trans, le-add, le-grow}
 
 -- ---- sums regrouped, and cancelled
@@ -62,16 +62,12 @@ s-add a b c d e f A B C D h k =
     let x = (b .gain ⊞ d .gain) ⊞ (a .loss ⊞ c .loss) in
     let Vp : Pos v = mul-pos (mul-pos (A .gain-is) (B .loss-is)) (mul-pos (C .gain-is) (D .loss-is)) in
     let W : Pos w = mul-pos (mul-pos (B .gain-is) (A .loss-is)) (mul-pos (D .gain-is) (C .loss-is)) in
-    let g = crossed (a .gain .num) (c .gain .num) (b .loss .num) (d .loss .num) (a .gain .den) (c .gain .den) (b .loss .den) (d .loss .den) in
-    let i = crossed (b .gain .num) (a .loss .num) (d .gain .num) (c .loss .num) (b .gain .den) (a .loss .den) (d .gain .den) (c .loss .den) in
+    let g = interchange (a .gain) (c .gain) (b .loss) (d .loss) in
+    let i = interchange (b .gain) (a .loss) (d .gain) (c .loss) in
     let o = le-add (a .gain ⊞ b .loss) (b .gain ⊞ a .loss) (c .gain ⊞ d .loss) (d .gain ⊞ c .loss) e f h k in
     let l : Le u w (0 + (e + f)) = le-trans u v w 0 (e + f) Vp (same-le u v g) o in
     let m : Le u x (0 + (e + f) + 0) = le-trans u w x (0 + (e + f)) 0 W l (same-le w x i) in
     le-grow u x (0 + (e + f) + 0) (e + f) (omega arith) m
-  where
-    crossed : (a b c d p q r s : ℕ)
-        → ((a * q + b * p) * (r * s) + (c * s + d * r) * (p * q)) * (p * r * (q * s)) ≡ ((a * r + c * p) * (q * s) + (b * s + d * q) * (p * r)) * (p * q * (r * s))
-    crossed a b c d p q r s = omega arith
 
 pub s-refl : (a : Signed) → SLe a a 0
 s-refl a = omega arith

@@ -16,7 +16,7 @@ use Rattle.exact_angles.specs.Exact.{Shut, around, Within}
 use Rattle.angle.specs.Arctan as A
 use Rattle.numbers.specs.F64 as F
 use Rattle.fractions.proofs.Sizes.{Fin}
-use Rattle.exact_angles.specs.Steady.{Pair, total, Signed, _⊹_, none, lowest, highest, exactOf, lowEnd, highEnd, lowSum, highSum, Aimed, AllAimed, SameSign, Decides, NotBoth}
+use Rattle.exact_angles.specs.Steady.{Pair, total, Signed, _⊹_, none, lowest, highest, exactOf, lowEnd, highEnd, lowSum, highSum, Aimed, AllAimed, SameSign, Decides}
 use Rattle.fractions.proofs.Frac.{Pos}
 use Rattle.angle.proofs.Zeros.{ahead, behind, both-plus, both-minus}
 use Rattle.exact_angles.proofs.Plane.{angle-within, angle-small}
@@ -224,53 +224,3 @@ steady-sign ps n a b = steady ps (total F.zero ps) sums n b
 -- it is finite, whatever its size
 pub total-finite : (ps : List Pair) → length ps ≤ 512 → AllAimed ps → Fin (total F.zero ps)
 total-finite ps n a = from-zero ps n a 48 (lit≤ tt) .finite
-
--- ---- the lower end is not above the upper one, so no sum is above 0 and below 0
-low-high : (s : Bool) (l h : Frac) → l ≼ h → SLe (lowest s l h) (highest s l h) 0
-low-high false l h o = at (l .num) (l .den) (h .num) (h .den) o
-  where
-    at : (a b c d : ℕ) → a * d ≤ c * b → (a * 1 + 0 * b) * (d * 1) * 9007199254740992 ≤ (c * 1 + 0 * d) * (b * 1) * 9007199254740992 + 0 * (b * 1 * (d * 1))
-    at a b c d h = omega arith
-low-high true l h o = at (l .num) (l .den) (h .num) (h .den) o
-  where
-    at : (a b c d : ℕ) → a * d ≤ c * b → (0 * b + a * 1) * (1 * d) * 9007199254740992 ≤ (0 * d + c * 1) * (1 * b) * 9007199254740992 + 0 * (1 * b * (1 * d))
-    at a b c d h = omega arith
-
-end-low-high : (y x : Float) (i : ℕ) → Aimed y x → SLe (lowEnd y x i) (highEnd y x i) 0
-end-low-high nan x i h = absurd h
-end-low-high (inf s) x i h = absurd h
-end-low-high (fin s m e) nan i h = absurd h
-end-low-high (fin s m e) (inf t) i h = absurd h
-end-low-high (fin s m e) (fin t n d) i h = low-high s (exactOf t m e n d .low i) (exactOf t m e n d .high i) (placed s t m n e d .within .one-value .ordered i)
-
-record Ordered (l h : Signed) : Type 0 where
-  low-is : SPos l
-  high-is : SPos h
-  order : SLe l h 0
-
-ordered : (i : ℕ) → 48 ≤ i → (ps : List Pair) → AllAimed ps → Ordered (lowSum ps i) (highSum ps i)
-unfolding lowSum highSum
-ordered i l [] a = record { low-is = none-pos; high-is = none-pos; order = s-refl none }
-ordered i l (p ∷ ps) a =
-    let w = aim (p .y) (p .x) i l (a .0) in
-    let o = ordered i l ps (a .1) in
-    record {
-      low-is = spos-add (lowEnd (p .y) (p .x) i) (lowSum ps i) (w .low-is) (o .low-is);
-      high-is = spos-add (highEnd (p .y) (p .x) i) (highSum ps i) (w .high-is) (o .high-is);
-      order = s-add (lowEnd (p .y) (p .x) i) (highEnd (p .y) (p .x) i) (lowSum ps i) (highSum ps i) 0 0 (w .low-is) (w .high-is) (o .low-is) (o .high-is) (end-low-high (p .y) (p .x) i (a .0)) (o .order);
-    }
-
-pub not-both : NotBoth
-not-both ps a i l u v =
-    let o = ordered i l ps a in
-    let x = lowSum ps i in
-    let y = highSum ps i in
-    clash (x .gain .num) (x .gain .den) (x .loss .num) (x .loss .den) (y .gain .num) (y .gain .den) (y .loss .num) (y .loss .den) (o .low-is .gain-is) (o .low-is .loss-is) (o .high-is .gain-is) (o .high-is .loss-is) u v (o .order)
-  where
-    clash : (ag p al q bg r bl s : ℕ) → 0 < p → 0 < q → 0 < r → 0 < s → al * p < ag * q → bg * s < bl * r
-        → (ag * s + bl * p) * (r * q) * 9007199254740992 ≤ (bg * q + al * r) * (p * s) * 9007199254740992 + 0 * (p * s * (r * q)) → ⊥
-    clash ag p al q bg r bl s P Q R S u v w =
-        let x : suc (al * p) * (r * s) ≤ ag * q * (r * s) = mul-le-mul-right (r * s) u in
-        let y : suc (bg * s) * (p * q) ≤ bl * r * (p * q) = mul-le-mul-right (p * q) v in
-        let z : 0 < r * s = mul-pos R S in
-        omega arith

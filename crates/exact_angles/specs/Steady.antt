@@ -85,6 +85,26 @@ abbrev pub AllAimed : List Pair → Type 0
 AllAimed [] = Unit {0}
 AllAimed (p ∷ ps) = Aimed (p .y) (p .x) × AllAimed ps
 
+-- ---- SCOPE 44: a is at most b + c: what either takes off stands on the other side
+abbrev pub AtMost : Signed → Signed → Frac → Type 0
+AtMost a b c = a .gain ⊞ b .loss ≼ (b .gain ⊞ a .loss) ⊞ c
+
+abbrev pub Fractions : Signed → Type 0
+Fractions a = (0 < a .gain .den) × (0 < a .loss .den)
+
+-- SCOPE 44: the ends of a list's exact sum are fractions, the lower ones rise, the upper ones fall, and they close in: so they shut in one value and no other
+pub record SumClosing (ps : List Pair) : Type 0 where
+  pub low-is : (i : ℕ) → Fractions (lowSum ps i)
+  pub high-is : (i : ℕ) → Fractions (highSum ps i)
+  pub rises : (i : ℕ) → AtMost (lowSum ps i) (lowSum ps (suc i)) (0 over 1)
+  pub falls : (i : ℕ) → AtMost (highSum ps (suc i)) (highSum ps i) (0 over 1)
+  pub ordered : (i : ℕ) → AtMost (lowSum ps i) (highSum ps i) (0 over 1)
+  pub closes : (i : ℕ) → AtMost (highSum ps i) (lowSum ps i) ((7 * length ps) over (2 ^ i))
+
+-- proved as `sums-close`
+abbrev pub SumsClose : Type 0
+SumsClose = (ps : List Pair) → AllAimed ps → SumClosing ps
+
 -- ---- above 0, and below 0
 abbrev pub Above : Signed → Type 0
 Above a = a .loss .num * a .gain .den < a .gain .num * a .loss .den
@@ -107,6 +127,6 @@ SameSign = SameSignFrom 48
 abbrev pub Decides : ℕ → ℕ → Type 0
 Decides k b = (ps : List Pair) → length ps ≤ 512 → AllAimed ps → (1 over (2 ^ k)) ≼ magnitude (total F64.zero ps) → SameSignFrom b (total F64.zero ps) ps
 
--- SCOPE 44: no sum is above 0 and below 0
+-- SCOPE 44: no sum is above 0 and below 0, proved as `not-both`
 abbrev pub NotBoth : Type 0
-NotBoth = (ps : List Pair) → AllAimed ps → (i : ℕ) → 48 ≤ i → Above (lowSum ps i) → Below (highSum ps i) → ⊥
+NotBoth = (ps : List Pair) → AllAimed ps → (i : ℕ) → Above (lowSum ps i) → Below (highSum ps i) → ⊥

@@ -70,9 +70,6 @@ sub-at w an ad bn bd cn cd dn dd e f h k =
 abbrev pub Pos : Frac → Type 0
 Pos a = 0 < a .den
 
-pub le-refl : (a : Frac) → Le a a 0
-le-refl a = omega arith
-
 pub le-grow : (a b : Frac) (e f : ℕ) → e ≤ f → Le a b e → Le a b f
 le-grow a b e f h l = omega (arith, mul-le-mul-right (a .den * b .den) h)
 
@@ -105,9 +102,6 @@ LeAt w a b e = a .num * b .den * w ≤ b .num * a .den * w + e * (a .den * b .de
 
 pub leAt-sub : (w : ℕ) (a b c d : Frac) (e f : ℕ) → LeAt w a b e → LeAt w d c f → LeAt w (a ⊟ c) (b ⊟ d) (e + f)
 leAt-sub w a b c d e f h k = sub-at w (a .num) (a .den) (b .num) (b .den) (c .num) (c .den) (d .num) (d .den) e f h k
-
-pub leAt-mul : (w : ℕ) (a b c : Frac) (e g : ℕ) → LeAt w a b e → e * c .num ≤ g * c .den → LeAt w (a ⊠ c) (b ⊠ c) g
-leAt-mul w a b c e g h k = mul-at w (a .num) (a .den) (b .num) (b .den) (c .num) (c .den) e g h k
 
 -- from the order, and back to a bound by a whole number
 pub le-of : (a b : Frac) → a ≼ b → Le a b 0

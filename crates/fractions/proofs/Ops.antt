@@ -9,7 +9,7 @@ use lib.Ieee.{Float, nan, inf, fin, binary64, up, down, round, add, sub, mul, di
 use lib.Ieee.Fits.{down-pos}
 use lib.Ieee.Order.{round-mono}
 use Rattle.fractions.specs.Frac.{Frac, _over_, _⊞_, _⊟_, _⊠_, _⧄_, _≼_, magnitude}
-use Rattle.fractions.proofs.Frac.{Le, Pos, le-trans, le-mul, mul-le, le-add, le-sub, le-div, le-grow}
+use Rattle.fractions.proofs.Frac.{Le, Pos, le-trans, le-mul, mul-le, le-add, le-div, le-grow}
 use Rattle.fractions.proofs.Round.{Plus, Near, round-near}
 
 pub den-pos : (x : Float) → Pos (magnitude x)
@@ -161,15 +161,6 @@ near-add x y a b e f j n m s o =
     let Y = magnitude y in
     near-move (add binary64 x y) (X ⊞ Y) (a ⊞ b) (2 ^ j) (e + f) (mul-pos (den-pos x) (den-pos y)) (add-op x y j (n .plus) (m .plus) s o)
     (le-add X a Y b e f (n .above) (m .above)) (le-add a X b Y e f (n .below) (m .below))
-
-pub near-sub : (x y : Float) (a b : Frac) (e f j : ℕ) → Near x a e → Near y b f → j ≤ 20 → magnitude y ≼ magnitude x
-    → (magnitude x ⊟ magnitude y) .num ≤ 2 ^ j * (magnitude x ⊟ magnitude y) .den
-    → Near (sub binary64 x y) (a ⊟ b) (2 ^ j + (e + f))
-near-sub x y a b e f j n m s l o =
-    let X = magnitude x in
-    let Y = magnitude y in
-    near-move (sub binary64 x y) (X ⊟ Y) (a ⊟ b) (2 ^ j) (e + f) (mul-pos (den-pos x) (den-pos y)) (sub-op x y j (n .plus) (m .plus) s l o)
-    (le-sub X a Y b e f (n .above) (m .below)) (le-sub a X b Y e f (n .below) (m .above))
 
 -- a quotient of at most 1 by a divisor of at least 1
 pub near-div : (x y : Float) (a b : Frac) (e f : ℕ) → Near x a e → Near y b f → magnitude x ≼ magnitude y → a ≼ b

@@ -1,6 +1,6 @@
 -- Fractions that are the same, and the order of fractions: both go through sums, differences and products. Assumes nothing.
 use mathlib.Core.Path.{_≡_, sym, ap}
-use Prim.Native.Nat.{ℕ, _-_, _*_}
+use Prim.Native.Nat.{ℕ, _+_, _-_, _*_}
 use native.Mathlib.Nat.{le-of-eq, mul-le-mul-right, le-of-mul-le-mul-right, eq-of-mul-eq-mul-right}
 use native.Mathlib.Omega.{arith}
 use Rattle.fractions.specs.Frac.{Frac, _⊞_, _⊟_, _⊠_, _≼_}
@@ -19,6 +19,14 @@ mul-same c a b h = omega (arith, ap (λ (z : ℕ). z * (c .num * c .den)) h)
 
 pub add-same : (a b c d : Frac) → Same a b → Same c d → Same (a ⊞ c) (b ⊞ d)
 add-same a b c d h k = omega (arith, ap (λ (z : ℕ). z * (c .den * d .den)) h, ap (λ (z : ℕ). z * (a .den * b .den)) k)
+
+-- four fractions, summed two and two
+pub interchange : (a b c d : Frac) → Same ((a ⊞ b) ⊞ (c ⊞ d)) ((a ⊞ c) ⊞ (b ⊞ d))
+interchange a b c d = at (a .num) (b .num) (c .num) (d .num) (a .den) (b .den) (c .den) (d .den)
+  where
+    at : (a b c d p q r s : ℕ)
+        → ((a * q + b * p) * (r * s) + (c * s + d * r) * (p * q)) * (p * r * (q * s)) ≡ ((a * r + c * p) * (q * s) + (b * s + d * q) * (p * r)) * (p * q * (r * s))
+    at a b c d p q r s = omega arith
 
 -- ---- the order
 pub same-≼ : (a b : Frac) → Same a b → a ≼ b

@@ -10,7 +10,7 @@ use lib.Ieee.{Float}
 use Rattle.laws.proofs.Firsts.{firstOf-zero, firstOf-fine}
 use Rattle.angle.specs.Angles.{weak, clockwise}
 use Rattle.judge.specs.Judge.{positionFault, positionsFault}
-use Rattle.exact_angles.proofs.Total.{not-both}
+use Rattle.exact_angles.proofs.Sums.{not-both}
 use Rattle.ring_turns.specs.Turns.{turnSum}
 use Rattle.ring_corners.specs.Corners.{reversal, classesOf, allBoth}
 use Rattle.ring_corners.proofs.Openings.{opened-le}
@@ -65,7 +65,7 @@ isnt-false false h = absurd (h refl)
 -- ---- a ring's header: its marks are those of the turn sum, and no sum is on both sides
 module _ (l : List Float) (few : openedCount l ≤ 512) (all : positionsFault l (openedCount l) ≡ 0) where
   one-side : SumAbove l (openedCount l) → SumBelow l (openedCount l) → ⊥
-  one-side a b = not-both (turnPairs l (openedCount l)) (turns-aimed l (openedCount l) all) 48 (lit≤ tt) (a 48 (lit≤ tt)) (b 48 (lit≤ tt))
+  one-side a b = not-both (turnPairs l (openedCount l)) (turns-aimed l (openedCount l) all) 48 (a 48 (lit≤ tt)) (b 48 (lit≤ tt))
 
   ring : (h : Header) → ringHeader l (openedCount l) (reversal l (openedCount l)) ≡ h → h .weak ≡ false → Directed l h
   unfolding ringHeader reversal

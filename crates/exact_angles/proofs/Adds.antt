@@ -9,12 +9,12 @@ use lib.Dec.{T, ltb, ltb→lt, nltb→le, lit≤}
 use lib.Ieee.{Float, nan, inf, fin, binary64, up, down, round, neg, add, sum}
 use lib.Ieee.Fits.{down-pos}
 use Rattle.fractions.specs.Frac.{Frac, _over_, _⊞_, magnitude}
-use Rattle.exact_angles.specs.Steady.{Signed, _⊹_, none, lowest}
-use Rattle.fractions.proofs.Frac.{Le, Pos, le-bound}
-use Rattle.fractions.proofs.Order.{Same}
+use Rattle.exact_angles.specs.Steady.{Signed, _⊹_, none, lowest, Fractions}
+use Rattle.fractions.proofs.Frac.{Pos, le-bound}
+use Rattle.fractions.proofs.Order.{Same, same-le}
 use Rattle.fractions.proofs.Round.{Near, round-near}
 use Rattle.fractions.proofs.Sizes.{Fin, round-sign}
-use Rattle.exact_angles.proofs.Signs.{SLe, SPos, s-trans, s-grow, spos-add}
+use Rattle.exact_angles.proofs.Signs.{SLe, s-trans, s-grow, fractions-add}
 
 -- ---- a finite value as a signed fraction
 abbrev pub signedOf : Float → Signed
@@ -22,7 +22,7 @@ signedOf nan = none
 signedOf (inf s) = none
 signedOf (fin s m e) = lowest s ((m * up e) over (down e)) ((m * up e) over (down e))
 
-pub signed-pos : (x : Float) → SPos (signedOf x)
+pub signed-pos : (x : Float) → Fractions (signedOf x)
 signed-pos nan = record { gain-is = zero-lt-suc 0; loss-is = zero-lt-suc 0 }
 signed-pos (inf s) = record { gain-is = zero-lt-suc 0; loss-is = zero-lt-suc 0 }
 signed-pos (fin false m e) = record { gain-is = down-pos e; loss-is = zero-lt-suc 0 }
@@ -69,15 +69,12 @@ round-snear true num den j D l h =
 abbrev pub SSame : Signed → Signed → Type 0
 SSame a b = Same (a .gain ⊞ b .loss) (b .gain ⊞ a .loss)
 
-pub snear-same : (x : Float) (a b : Signed) (e : ℕ) → SPos a → SPos b → SSame a b → SNear x a e → SNear x b e
+pub snear-same : (x : Float) (a b : Signed) (e : ℕ) → Fractions a → Fractions b → SSame a b → SNear x a e → SNear x b e
 snear-same x a b e A B s h = record {
   finite = h .finite;
-  above = s-grow (signedOf x) b (e + 0) e (omega arith) (s-trans (signedOf x) a b e 0 (signed-pos x) A B (h .above) (le-same (a .gain ⊞ b .loss) (b .gain ⊞ a .loss) s));
-  below = s-grow b (signedOf x) (0 + e) e (omega arith) (s-trans b a (signedOf x) 0 e B A (signed-pos x) (le-same (b .gain ⊞ a .loss) (a .gain ⊞ b .loss) (sym s)) (h .below));
+  above = s-grow (signedOf x) b (e + 0) e (omega arith) (s-trans (signedOf x) a b e 0 (signed-pos x) A B (h .above) (same-le (a .gain ⊞ b .loss) (b .gain ⊞ a .loss) s));
+  below = s-grow b (signedOf x) (0 + e) e (omega arith) (s-trans b a (signedOf x) 0 e B A (signed-pos x) (same-le (b .gain ⊞ a .loss) (a .gain ⊞ b .loss) (sym s)) (h .below));
 }
-  where
-    le-same : (u v : Frac) → Same u v → Le u v 0
-    le-same u v h = omega arith
 
 module _ (a b c d : ℕ) where
   abbrev X : Frac
@@ -107,7 +104,7 @@ module _ (a b c d : ℕ) where
   minus-more : (D : ℕ) → D + c * b ≡ a * d → SSame (lowest true (D over (b * d)) (D over (b * d))) (lowest true X X ⊹ lowest false Y Y)
   minus-more D e = omega (arith, ap (λ (z : ℕ). z * (b * d)) e)
 
-pub lowest-pos : (s : Bool) (a : Frac) → Pos a → SPos (lowest s a a)
+pub lowest-pos : (s : Bool) (a : Frac) → Pos a → Fractions (lowest s a a)
 lowest-pos false a h = record { gain-is = h; loss-is = zero-lt-suc 0 }
 lowest-pos true a h = record { gain-is = zero-lt-suc 0; loss-is = h }
 
@@ -118,7 +115,7 @@ step : (s t u : Bool) (m n : ℕ) (e d : ℤ) (N j : ℕ) → j ≤ 20 → N ≤
 step s t u m n e d N j l h k =
     snear-same (round binary64 u N (down e * down d)) (lowest u (N over (down e * down d)) (N over (down e * down d))) (signedOf (fin s m e) ⊹ signedOf (fin t n d)) (2 ^ j)
     (lowest-pos u (N over (down e * down d)) (mul-pos (down-pos e) (down-pos d)))
-    (spos-add (signedOf (fin s m e)) (signedOf (fin t n d)) (signed-pos (fin s m e)) (signed-pos (fin t n d))) k
+    (fractions-add (signedOf (fin s m e)) (signedOf (fin t n d)) (signed-pos (fin s m e)) (signed-pos (fin t n d))) k
     (round-snear u N (down e * down d) j (mul-pos (down-pos e) (down-pos d)) l h)
 
 back : (a b : ℕ) → b ≤ a → a - b + b ≡ a

@@ -111,25 +111,20 @@ first-closing p q o = go (ltb p q) (ltb q p) (ltb→lt p q) (ltb→lt q p)
     go false false f g = closing-grow quarter 1 3 (lit≤ tt) quarter-closing
 
 -- ---- from an n on
+from-on : (R : ℕ → Type 0) (N : ℕ) → R N → ((n : ℕ) → R n → R (suc n)) → (n : ℕ) → N ≤ n → R n
+from-on R N r next zero l = subst R (none N l) r
+  where
+    none : (z : ℕ) → z ≤ 0 → z ≡ 0
+    none z l = omega arith
+from-on R N r next (suc n) l = go (eq-or-lt-of-le l) (from-on R N r next n)
+  where
+    go : (N ≡ suc n) ⊎ (N < suc n) → (N ≤ n → R n) → R (suc n)
+    go (inl e) ih = subst R e r
+    go (inr m) ih = next n (ih (omega arith))
+
 module _ (a : Shut) (c : ℕ) (h : Closing a c) (N : ℕ) where
   pub low-from : (n : ℕ) → N ≤ n → a .low N ≼ a .low n
-  low-from zero l = subst (λ (z : ℕ). a .low N ≼ a .low z) (none N l) (le-of-eq refl)
-    where
-      none : (z : ℕ) → z ≤ 0 → z ≡ 0
-      none z l = omega arith
-  low-from (suc n) l = go (eq-or-lt-of-le l) (low-from n)
-    where
-      go : (N ≡ suc n) ⊎ (N < suc n) → (N ≤ n → a .low N ≼ a .low n) → a .low N ≼ a .low (suc n)
-      go (inl e) ih = subst (λ (z : ℕ). a .low N ≼ a .low z) e (le-of-eq refl)
-      go (inr m) ih = ≼-trans (a .low N) (a .low n) (a .low (suc n)) (h .low-is n) (ih (omega arith)) (h .rises n)
+  low-from = from-on (λ n. a .low N ≼ a .low n) N (le-of-eq refl) (λ n r. ≼-trans (a .low N) (a .low n) (a .low (suc n)) (h .low-is n) r (h .rises n))
 
   pub high-from : (n : ℕ) → N ≤ n → a .high n ≼ a .high N
-  high-from zero l = subst (λ (z : ℕ). a .high z ≼ a .high N) (none N l) (le-of-eq refl)
-    where
-      none : (z : ℕ) → z ≤ 0 → z ≡ 0
-      none z l = omega arith
-  high-from (suc n) l = go (eq-or-lt-of-le l) (high-from n)
-    where
-      go : (N ≡ suc n) ⊎ (N < suc n) → (N ≤ n → a .high n ≼ a .high N) → a .high (suc n) ≼ a .high N
-      go (inl e) ih = subst (λ (z : ℕ). a .high z ≼ a .high N) e (le-of-eq refl)
-      go (inr m) ih = ≼-trans (a .high (suc n)) (a .high n) (a .high N) (h .high-is n) (h .falls n) (ih (omega arith))
+  high-from = from-on (λ n. a .high n ≼ a .high N) N (le-of-eq refl) (λ n r. ≼-trans (a .high (suc n)) (a .high n) (a .high N) (h .high-is n) (h .falls n) r)

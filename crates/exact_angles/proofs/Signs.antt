@@ -4,7 +4,7 @@ use Prim.Native.Nat.{ℕ, _+_, _-_, _*_, _≤_, _<_}
 use native.Mathlib.Nat.{mul-pos, le-of-mul-le-mul-right}
 use native.Mathlib.Omega.{arith}
 use Rattle.fractions.specs.Frac.{Frac, _⊞_}
-use Rattle.exact_angles.specs.Steady.{Signed, _⊹_}
+use Rattle.exact_angles.specs.Steady.{Signed, _⊹_, Fractions}
 use Rattle.fractions.proofs.Order.{Same, same-le, interchange}
 use Rattle.fractions.proofs.Frac.{Le, Pos, le-trans, le-add, le-grow}
 
@@ -28,17 +28,10 @@ cancel x y z e Z h = cancel-at (x .num) (x .den) (y .num) (y .den) (z .num) (z .
 abbrev pub SLe : Signed → Signed → ℕ → Type 0
 SLe a b e = Le (a .gain ⊞ b .loss) (b .gain ⊞ a .loss) e
 
-pub record SPos (a : Signed) : Type 0 where
-  pub gain-is : Pos (a .gain)
-  pub loss-is : Pos (a .loss)
+pub fractions-add : (a b : Signed) → Fractions a → Fractions b → Fractions (a ⊹ b)
+fractions-add a b h k = record { gain-is = mul-pos (h .gain-is) (k .gain-is); loss-is = mul-pos (h .loss-is) (k .loss-is) }
 
-pub spos-add : (a b : Signed) → SPos a → SPos b → SPos (a ⊹ b)
-spos-add a b h k = record { gain-is = mul-pos (h .gain-is) (k .gain-is); loss-is = mul-pos (h .loss-is) (k .loss-is) }
-
-sum-pos : (a b : Frac) → Pos a → Pos b → Pos (a ⊞ b)
-sum-pos a b h k = mul-pos h k
-
-pub s-trans : (a b c : Signed) (e f : ℕ) → SPos a → SPos b → SPos c → SLe a b e → SLe b c f → SLe a c (e + f)
+pub s-trans : (a b c : Signed) (e f : ℕ) → Fractions a → Fractions b → Fractions c → SLe a b e → SLe b c f → SLe a c (e + f)
 s-trans a b c e f A B C h k =
     let u = (a .gain ⊞ c .loss) ⊞ (b .gain ⊞ b .loss) in
     let v = (a .gain ⊞ b .loss) ⊞ (b .gain ⊞ c .loss) in
@@ -54,7 +47,7 @@ s-trans a b c e f A B C h k =
         → ((a * q + b * p) * (r * s) + (c * s + d * r) * (p * q)) * (r * q * (p * s)) ≡ ((c * q + b * r) * (p * s) + (a * s + d * p) * (r * q)) * (p * q * (r * s))
     moved a b c d p q r s = omega arith
 
-pub s-add : (a b c d : Signed) (e f : ℕ) → SPos a → SPos b → SPos c → SPos d → SLe a b e → SLe c d f → SLe (a ⊹ c) (b ⊹ d) (e + f)
+pub s-add : (a b c d : Signed) (e f : ℕ) → Fractions a → Fractions b → Fractions c → Fractions d → SLe a b e → SLe c d f → SLe (a ⊹ c) (b ⊹ d) (e + f)
 s-add a b c d e f A B C D h k =
     let u = (a .gain ⊞ c .gain) ⊞ (b .loss ⊞ d .loss) in
     let v = (a .gain ⊞ b .loss) ⊞ (c .gain ⊞ d .loss) in

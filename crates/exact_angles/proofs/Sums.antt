@@ -14,12 +14,13 @@ use Rattle.fractions.proofs.Order.{Same, same-≼, add-same, interchange, ≼-t
 use Rattle.exact_angles.specs.Exact.{Shut, Closing}
 use Rattle.exact_angles.specs.Steady.{Pair, Signed, _⊹_, lowest, highest, exactOf, lowEnd, highEnd, lowSum, highSum, Aimed}
 use Rattle.exact_angles.specs.Steady.{AtMost, Fractions, SumClosing, SumsClose, NotBoth}
+use Rattle.exact_angles.proofs.Signs.{fractions-add}
 use Rattle.exact_angles.proofs.Total.{placed}
 
 -- ---- sums of signed fractions in order
 module _ (a b : Signed) (A : Fractions a) (B : Fractions b) where
   at-most-pos : (c : Frac) → Pos c → Pos ((b .gain ⊞ a .loss) ⊞ c)
-  at-most-pos c C = mul-pos (mul-pos (B .0) (A .1)) C
+  at-most-pos c C = mul-pos (mul-pos (B .gain-is) (A .loss-is)) C
 
   -- c by another fraction of the same value
   at-most-same : (c d : Frac) → Pos c → Same c d → AtMost a b c → AtMost a b d
@@ -41,9 +42,9 @@ module _ (a b : Signed) (A : Fractions a) (B : Fractions b) where
         let v = (y ⊞ c) ⊞ (y' ⊞ c') in
         let w = (y ⊞ y') ⊞ (c ⊞ c') in
         let z = ((b ⊹ b') .gain ⊞ (a ⊹ a') .loss) ⊞ (c ⊞ c') in
-        let Y : Pos y = mul-pos (B .0) (A .1) in
-        let Y' : Pos y' = mul-pos (B' .0) (A' .1) in
-        let X : Pos (x ⊞ x') = mul-pos (mul-pos (A .0) (B .1)) (mul-pos (A' .0) (B' .1)) in
+        let Y : Pos y = mul-pos (B .gain-is) (A .loss-is) in
+        let Y' : Pos y' = mul-pos (B' .gain-is) (A' .loss-is) in
+        let X : Pos (x ⊞ x') = mul-pos (mul-pos (A .gain-is) (B .loss-is)) (mul-pos (A' .gain-is) (B' .loss-is)) in
         let Vp : Pos v = mul-pos (mul-pos Y C) (mul-pos Y' C') in
         let W : Pos w = mul-pos (mul-pos Y Y') (mul-pos C C') in
         let left : u ≼ x ⊞ x' = same-≼ u (x ⊞ x') (interchange (a .gain) (a' .gain) (b .loss) (b' .loss)) in
@@ -79,16 +80,16 @@ record PairClosing (low high : ℕ → Signed) : Type 0 where
 
 signed-closing : (s : Bool) (a : Shut) → Closing a 7 → PairClosing (λ i. lowest s (a .low i) (a .high i)) (λ i. highest s (a .low i) (a .high i))
 signed-closing false a c = record {
-  low-is = λ i. (c .low-is i, lit< tt);
-  high-is = λ i. (c .high-is i, lit< tt);
+  low-is = λ i. record { gain-is = c .low-is i; loss-is = lit< tt };
+  high-is = λ i. record { gain-is = c .high-is i; loss-is = lit< tt };
   rises = λ i. plus-at-most (a .low i) (a .low (suc i)) nothing (and-nothing (a .low i) (a .low (suc i)) (c .rises i));
   falls = λ i. plus-at-most (a .high (suc i)) (a .high i) nothing (and-nothing (a .high (suc i)) (a .high i) (c .falls i));
   ordered = λ i. plus-at-most (a .low i) (a .high i) nothing (and-nothing (a .low i) (a .high i) (c .ordered i));
   closes = λ i. plus-at-most (a .high i) (a .low i) (7 over (2 ^ i)) (c .closes i);
 }
 signed-closing true a c = record {
-  low-is = λ i. (lit< tt, c .high-is i);
-  high-is = λ i. (lit< tt, c .low-is i);
+  low-is = λ i. record { gain-is = lit< tt; loss-is = c .high-is i };
+  high-is = λ i. record { gain-is = lit< tt; loss-is = c .low-is i };
   rises = λ i. minus-at-most (a .high (suc i)) (a .high i) nothing (and-nothing (a .high (suc i)) (a .high i) (c .falls i));
   falls = λ i. minus-at-most (a .low i) (a .low (suc i)) nothing (and-nothing (a .low i) (a .low (suc i)) (c .rises i));
   ordered = λ i. minus-at-most (a .low i) (a .high i) nothing (and-nothing (a .low i) (a .high i) (c .ordered i));
@@ -103,9 +104,6 @@ pair-closing (fin s m e) (inf t) h = absurd h
 pair-closing (fin s m e) (fin t n d) h = signed-closing s (exactOf t m e n d) (placed s t m n e d .within .one-value)
 
 -- ---- the list
-both-are : (a b : Signed) → Fractions a → Fractions b → Fractions (a ⊹ b)
-both-are a b h k = (mul-pos (h .0) (k .0), mul-pos (h .1) (k .1))
-
 -- seven more
 seven-on : (n u : ℕ) → Same ((7 over u) ⊞ ((7 * n) over u)) ((7 * suc n) over u)
 seven-on n u = omega arith
@@ -118,10 +116,10 @@ module _ (p : Pair) (ps : List Pair) (q : PairClosing (lowEnd (p .y) (p .x)) (hi
   high i = highEnd (p .y) (p .x) i
 
   low-is-on : (i : ℕ) → Fractions (low i ⊹ lowSum ps i)
-  low-is-on i = both-are (low i) (lowSum ps i) (q .low-is i) (r .low-is i)
+  low-is-on i = fractions-add (low i) (lowSum ps i) (q .low-is i) (r .low-is i)
 
   high-is-on : (i : ℕ) → Fractions (high i ⊹ highSum ps i)
-  high-is-on i = both-are (high i) (highSum ps i) (q .high-is i) (r .high-is i)
+  high-is-on i = fractions-add (high i) (highSum ps i) (q .high-is i) (r .high-is i)
 
   closes-on : (i : ℕ) → AtMost (high i ⊹ highSum ps i) (low i ⊹ lowSum ps i) ((7 * suc (length ps)) over (2 ^ i))
   closes-on i =
@@ -152,8 +150,8 @@ module _ (p : Pair) (ps : List Pair) (q : PairClosing (lowEnd (p .y) (p .x)) (hi
 pub sums-close : SumsClose
 unfolding lowSum highSum
 sums-close [] h = record {
-  low-is = λ i. (lit< tt, lit< tt);
-  high-is = λ i. (lit< tt, lit< tt);
+  low-is = λ i. record { gain-is = lit< tt; loss-is = lit< tt };
+  high-is = λ i. record { gain-is = lit< tt; loss-is = lit< tt };
   rises = λ i. lit≤ tt;
   falls = λ i. lit≤ tt;
   ordered = λ i. lit≤ tt;
@@ -168,7 +166,7 @@ not-both ps a i u v =
     let x = lowSum ps i in
     let y = highSum ps i in
     clash (x .gain .num) (x .gain .den) (x .loss .num) (x .loss .den) (y .gain .num) (y .gain .den) (y .loss .num) (y .loss .den)
-    (c .low-is i .0) (c .low-is i .1) (c .high-is i .0) (c .high-is i .1) u v (c .ordered i)
+    (c .low-is i .gain-is) (c .low-is i .loss-is) (c .high-is i .gain-is) (c .high-is i .loss-is) u v (c .ordered i)
   where
     clash : (ag p al q bg r bl s : ℕ) → 0 < p → 0 < q → 0 < r → 0 < s → al * p < ag * q → bg * s < bl * r
         → (ag * s + bl * p) * (r * q * 1) ≤ ((bg * q + al * r) * 1 + 0 * (r * q)) * (p * s) → ⊥

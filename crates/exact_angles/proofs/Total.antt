@@ -16,19 +16,19 @@ use Rattle.exact_angles.specs.Exact.{Shut, around, Within}
 use Rattle.angle.specs.Arctan as A
 use Rattle.numbers.specs.F64 as F
 use Rattle.fractions.proofs.Sizes.{Fin}
-use Rattle.exact_angles.specs.Steady.{Pair, total, Signed, _⊹_, none, lowest, highest, exactOf, lowEnd, highEnd, lowSum, highSum, Aimed, AllAimed, SameSign, Decides}
+use Rattle.exact_angles.specs.Steady.{Pair, total, Signed, _⊹_, none, lowest, highest, exactOf, lowEnd, highEnd, lowSum, highSum, Aimed, AllAimed, Fractions, SameSign, Decides}
 use Rattle.fractions.proofs.Frac.{Pos}
 use Rattle.angle.proofs.Zeros.{ahead, behind, both-plus, both-minus}
 use Rattle.exact_angles.proofs.Plane.{angle-within, angle-small}
-use Rattle.exact_angles.proofs.Signs.{SLe, SPos, s-trans, s-add, s-refl, s-left, s-right, s-grow, spos-add}
+use Rattle.exact_angles.proofs.Signs.{SLe, s-trans, s-add, s-refl, s-left, s-right, s-grow, fractions-add}
 use Rattle.exact_angles.proofs.Adds.{signedOf, signed-pos, SNear, add-signed, add-size}
 
 -- ---- one pair
 pub record Aim (r : Float) (l h : Signed) : Type 0 where
   pub finite : Fin r
   pub small : magnitude r .num ≤ 5 * magnitude r .den
-  pub low-is : SPos l
-  pub high-is : SPos h
+  pub low-is : Fractions l
+  pub high-is : Fractions h
   pub above : SLe (signedOf r) l 256
   pub below : SLe h (signedOf r) 256
 
@@ -94,34 +94,34 @@ aim (fin s m e) (fin t n d) i l h = go (A.atan2 (fin s m e) (fin t n d)) (exactO
 -- ---- the sum: each pair adds at most 4096 for the rounding, and 256 for its angle
 pub record Summed (r acc : Float) (l h : Signed) (e : ℕ) : Type 0 where
   pub finite : Fin r
-  pub low-is : SPos l
-  pub high-is : SPos h
+  pub low-is : Fractions l
+  pub high-is : Fractions h
   pub above : SLe (signedOf r) (signedOf acc ⊹ l) e
   pub below : SLe (signedOf acc ⊹ h) (signedOf r) e
 
-none-pos : SPos none
+none-pos : Fractions none
 none-pos = record { gain-is = zero-lt-suc 0; loss-is = zero-lt-suc 0 }
 
 -- T ≤ acc₁ + S, acc₁ ≤ acc + r, r ≤ p : T ≤ acc + (p + S)
-chain-up : (T acc acc₁ r p S : Signed) (e : ℕ) → SPos T → SPos acc → SPos acc₁ → SPos r → SPos p → SPos S
+chain-up : (T acc acc₁ r p S : Signed) (e : ℕ) → Fractions T → Fractions acc → Fractions acc₁ → Fractions r → Fractions p → Fractions S
     → SLe T (acc₁ ⊹ S) e → SLe acc₁ (acc ⊹ r) 4096 → SLe r p 256 → SLe T (acc ⊹ (p ⊹ S)) (e + 4352)
 chain-up T acc acc₁ r p S e «T'» «A'» «B'» «R'» «P'» «S'» h k l =
-    let ap' = spos-add acc p «A'» «P'» in
-    let x : SLe acc₁ (acc ⊹ p) 4352 = s-trans acc₁ (acc ⊹ r) (acc ⊹ p) 4096 256 «B'» (spos-add acc r «A'» «R'») ap' k (s-add acc acc r p 0 256 «A'» «A'» «R'» «P'» (s-refl acc) l) in
+    let ap' = fractions-add acc p «A'» «P'» in
+    let x : SLe acc₁ (acc ⊹ p) 4352 = s-trans acc₁ (acc ⊹ r) (acc ⊹ p) 4096 256 «B'» (fractions-add acc r «A'» «R'») ap' k (s-add acc acc r p 0 256 «A'» «A'» «R'» «P'» (s-refl acc) l) in
     let y : SLe (acc₁ ⊹ S) ((acc ⊹ p) ⊹ S) (4352 + 0) = s-add acc₁ (acc ⊹ p) S S 4352 0 «B'» ap' «S'» «S'» x (s-refl S) in
     let z : SLe (acc₁ ⊹ S) (acc ⊹ (p ⊹ S)) (4352 + 0 + 0) =
-    s-trans (acc₁ ⊹ S) ((acc ⊹ p) ⊹ S) (acc ⊹ (p ⊹ S)) (4352 + 0) 0 (spos-add acc₁ S «B'» «S'») (spos-add (acc ⊹ p) S ap' «S'») (spos-add acc (p ⊹ S) «A'» (spos-add p S «P'» «S'»)) y (s-left acc p S) in
-    s-trans T (acc₁ ⊹ S) (acc ⊹ (p ⊹ S)) e 4352 «T'» (spos-add acc₁ S «B'» «S'») (spos-add acc (p ⊹ S) «A'» (spos-add p S «P'» «S'»)) h z
+    s-trans (acc₁ ⊹ S) ((acc ⊹ p) ⊹ S) (acc ⊹ (p ⊹ S)) (4352 + 0) 0 (fractions-add acc₁ S «B'» «S'») (fractions-add (acc ⊹ p) S ap' «S'») (fractions-add acc (p ⊹ S) «A'» (fractions-add p S «P'» «S'»)) y (s-left acc p S) in
+    s-trans T (acc₁ ⊹ S) (acc ⊹ (p ⊹ S)) e 4352 «T'» (fractions-add acc₁ S «B'» «S'») (fractions-add acc (p ⊹ S) «A'» (fractions-add p S «P'» «S'»)) h z
 
-chain-down : (T acc acc₁ r p S : Signed) (e : ℕ) → SPos T → SPos acc → SPos acc₁ → SPos r → SPos p → SPos S
+chain-down : (T acc acc₁ r p S : Signed) (e : ℕ) → Fractions T → Fractions acc → Fractions acc₁ → Fractions r → Fractions p → Fractions S
     → SLe (acc₁ ⊹ S) T e → SLe (acc ⊹ r) acc₁ 4096 → SLe p r 256 → SLe (acc ⊹ (p ⊹ S)) T (4352 + e)
 chain-down T acc acc₁ r p S e «T'» «A'» «B'» «R'» «P'» «S'» h k l =
-    let ap' = spos-add acc p «A'» «P'» in
-    let x : SLe (acc ⊹ p) acc₁ 4352 = s-trans (acc ⊹ p) (acc ⊹ r) acc₁ 256 4096 ap' (spos-add acc r «A'» «R'») «B'» (s-add acc acc p r 0 256 «A'» «A'» «P'» «R'» (s-refl acc) l) k in
+    let ap' = fractions-add acc p «A'» «P'» in
+    let x : SLe (acc ⊹ p) acc₁ 4352 = s-trans (acc ⊹ p) (acc ⊹ r) acc₁ 256 4096 ap' (fractions-add acc r «A'» «R'») «B'» (s-add acc acc p r 0 256 «A'» «A'» «P'» «R'» (s-refl acc) l) k in
     let y : SLe ((acc ⊹ p) ⊹ S) (acc₁ ⊹ S) (4352 + 0) = s-add (acc ⊹ p) acc₁ S S 4352 0 ap' «B'» «S'» «S'» x (s-refl S) in
     let z : SLe (acc ⊹ (p ⊹ S)) (acc₁ ⊹ S) (0 + (4352 + 0)) =
-    s-trans (acc ⊹ (p ⊹ S)) ((acc ⊹ p) ⊹ S) (acc₁ ⊹ S) 0 (4352 + 0) (spos-add acc (p ⊹ S) «A'» (spos-add p S «P'» «S'»)) (spos-add (acc ⊹ p) S ap' «S'») (spos-add acc₁ S «B'» «S'») (s-right acc p S) y in
-    s-trans (acc ⊹ (p ⊹ S)) (acc₁ ⊹ S) T 4352 e (spos-add acc (p ⊹ S) «A'» (spos-add p S «P'» «S'»)) (spos-add acc₁ S «B'» «S'») «T'» z h
+    s-trans (acc ⊹ (p ⊹ S)) ((acc ⊹ p) ⊹ S) (acc₁ ⊹ S) 0 (4352 + 0) (fractions-add acc (p ⊹ S) «A'» (fractions-add p S «P'» «S'»)) (fractions-add (acc ⊹ p) S ap' «S'») (fractions-add acc₁ S «B'» «S'») (s-right acc p S) y in
+    s-trans (acc ⊹ (p ⊹ S)) (acc₁ ⊹ S) T 4352 e (fractions-add acc (p ⊹ S) «A'» (fractions-add p S «P'» «S'»)) (fractions-add acc₁ S «B'» «S'») «T'» z h
 
 summed : (i : ℕ) → 48 ≤ i → (ps : List Pair) (acc : Float) (k : ℕ) → Fin acc → magnitude acc .num ≤ 6 * k * magnitude acc .den → k + length ps ≤ 512 → AllAimed ps
     → Summed (total acc ps) acc (lowSum ps i) (highSum ps i) (4352 * length ps)
@@ -144,8 +144,8 @@ summed i l (p ∷ ps) acc k f b n a =
     let s = summed i l ps acc₁ (suc k) (d .finite) (next (magnitude acc₁ .num) (magnitude acc₁ .den) k z) (omega arith) (a .1) in
     record {
       finite = s .finite;
-      low-is = spos-add (lowEnd (p .y) (p .x) i) (lowSum ps i) (w .low-is) (s .low-is);
-      high-is = spos-add (highEnd (p .y) (p .x) i) (highSum ps i) (w .high-is) (s .high-is);
+      low-is = fractions-add (lowEnd (p .y) (p .x) i) (lowSum ps i) (w .low-is) (s .low-is);
+      high-is = fractions-add (highEnd (p .y) (p .x) i) (highSum ps i) (w .high-is) (s .high-is);
       above =
           s-grow (signedOf (total acc₁ ps)) (signedOf acc ⊹ (lowEnd (p .y) (p .x) i ⊹ lowSum ps i)) (4352 * length ps + 4352) (4352 * suc (length ps)) (omega arith)
           (chain-up (signedOf (total acc₁ ps)) (signedOf acc) (signedOf acc₁) (signedOf r) (lowEnd (p .y) (p .x) i) (lowSum ps i) (4352 * length ps)

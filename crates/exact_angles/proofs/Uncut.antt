@@ -48,14 +48,14 @@ whole-two n = ≼-trans (2 over 1) (whole .low 0) (whole .low n) (whole-closing 
 one-two : (a : Frac) → a ≼ (1 over 1) → a ≼ (2 over 1)
 one-two a h = omega arith
 
+left-over : (x y : ℕ) → x - y ≤ x
+left-over x y = omega arith
+
 less-two : (a b : Frac) → a ≼ (2 over 1) → (a ⊟ b) ≼ (2 over 1)
 less-two a b h = at (a .num) (a .den) (b .num) (b .den) h
   where
-    cut : (x y : ℕ) → x - y ≤ x
-    cut x y = omega arith
-
     at : (x y z w : ℕ) → x * 1 ≤ 2 * y → (x * w - z * y) * 1 ≤ 2 * (y * w)
-    at x y z w h = omega (arith, mul-le-mul-right w h, cut (x * w) (z * y))
+    at x y z w h = omega (arith, mul-le-mul-right w h, left-over (x * w) (z * y))
 
 pub whole-uncut : (p q : ℕ) → 0 < p + q → (n : ℕ) → first p q .high n ≼ whole .low n
 unfolding first
@@ -76,10 +76,7 @@ alternate-small u a zero = le-of-eq refl
 alternate-small u a (suc n) = left (2 * a + 1) ((u ⊠ alternate u (suc a) n) .num) ((u ⊠ alternate u (suc a) n) .den)
   where
     left : (d x w : ℕ) → (1 * w - x * d) * d ≤ 1 * (d * w)
-    left d x w = omega (arith, mul-le-mul-right d (cut (1 * w) (x * d)))
-      where
-        cut : (x y : ℕ) → x - y ≤ x
-        cut x y = omega arith
+    left d x w = omega (arith, mul-le-mul-right d (left-over (1 * w) (x * d)))
 
 pub gregory-uncut : (p q : ℕ) → 0 < q → p ≤ q → (a n : ℕ) → ((p * p) over (q * q)) ⊠ alternate ((p * p) over (q * q)) (suc a) n ≼ (1 over (2 * a + 1))
 gregory-uncut p q Q l a n =

@@ -89,8 +89,10 @@ AllAimed (p ∷ ps) = Aimed (p .y) (p .x) × AllAimed ps
 abbrev pub AtMost : Signed → Signed → Frac → Type 0
 AtMost a b c = a .gain ⊞ b .loss ≼ (b .gain ⊞ a .loss) ⊞ c
 
-abbrev pub Fractions : Signed → Type 0
-Fractions a = (0 < a .gain .den) × (0 < a .loss .den)
+-- both parts are fractions
+pub record Fractions (a : Signed) : Type 0 where
+  pub gain-is : 0 < a .gain .den
+  pub loss-is : 0 < a .loss .den
 
 -- SCOPE 44: the ends of a list's exact sum are fractions, the lower ones rise, the upper ones fall, and they close in: so they shut in one value and no other
 pub record SumClosing (ps : List Pair) : Type 0 where

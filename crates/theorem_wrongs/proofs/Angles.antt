@@ -3,7 +3,7 @@ use Prim.Native.Nat.{ℕ, _-_, _≤_, _<_}
 use native.Mathlib.Nat.{le-of-eq}
 use mathlib.Core.Path.{_≡_, refl, sym, ap, _∙_, subst}
 use mathlib.Core.Bool.{true, false}
-use mathlib.Core.List.{List}
+use mathlib.Core.List.{List, []}
 use lib.Dec.{T, leb, lit≤, lit<}
 use borrow.Author.Tests.{le-leb}
 use lib.Ieee.{Float, binary64, toBits}
@@ -17,11 +17,12 @@ use Rattle.ring_turns.specs.Turns.{turnSum}
 use Rattle.ring_turns.specs.Blocks.{sineAt, cosineAt}
 use Rattle.loop_header.specs.declared.Header.{Header}
 use Rattle.loop_header.specs.declared.State.the-variants.{Ring}
+use Rattle.loop_header.specs.Loops.{emptyHeader}
 use Rattle.loop_build.specs.Build.{openedCount, Outcome, loop, buildOutcome}
 use Rattle.theorem_settled.specs.Settled.{area-1, blank, blank-classes}
 use Rattle.theorem_settled.proofs.Computing.{of-turns, of-building}
 use Rattle.theorem_steady.specs.Turns.{pairsFrom, turnPairs}
-use Rattle.theorem_steady.specs.Directed.{SumBelow}
+use Rattle.theorem_steady.specs.Directed.{SumBelow, Directed}
 use Rattle.theorem_wrongs.proofs.Rings.{area-1-built}
 use Rattle.theorem_wrongs.specs.Angles.{minus-ten, double-angle, wide-ends, turnsOf, exchanged, OfAngles}
 
@@ -69,6 +70,10 @@ reversed-for-kept : ((l ps ns : List Float) (cs : List ℕ) (h : Header) → bui
 unfolding of-exact of-building pairsFrom sineAt cosineAt
 reversed-for-kept h = not-at-most _ _ refl (h area-1 (blank 3) (blank 3) (blank-classes 3) _ (ap (λ (o : Outcome). o .answer) area-1-built) refl refl refl 48 (lit≤ tt))
 
+of-every-state : ((l ps ns : List Float) (cs : List ℕ) (h : Header) → buildOutcome l ps ns cs .answer ≡ loop h → h .weak ≡ false → Directed l h) → ⊥
+unfolding of-exact of-building pairsFrom
+of-every-state h = not-at-most _ _ refl (h [] [] [] [] emptyHeader refl refl .kept refl 48 (lit≤ tt))
+
 pub of-angles : OfAngles
 of-angles = record {
   bound-of-52 = bound-of-52;
@@ -80,4 +85,5 @@ of-angles = record {
   of-all-turns = λ l n. unfold turnSum in refl;
   sine-for-cosine = sine-for-cosine;
   reversed-for-kept = reversed-for-kept;
+  of-every-state = of-every-state;
 }

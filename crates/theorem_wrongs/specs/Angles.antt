@@ -19,7 +19,7 @@ use Rattle.loop_header.specs.declared.Header.{Header}
 use Rattle.loop_header.specs.declared.State.the-variants.{Ring}
 use Rattle.loop_build.specs.Build.{openedCount, loop, buildOutcome}
 use Rattle.theorem_steady.specs.Turns.{turnPairs}
-use Rattle.theorem_steady.specs.Directed.{SumBelow}
+use Rattle.theorem_steady.specs.Directed.{SumBelow, Directed}
 
 -- ---- the inputs
 abbrev pub three : Float
@@ -68,3 +68,5 @@ pub record OfAngles : Type 0 where
   -- a mark `reversed` that says that the list was kept: area 1 is reversed, and its exact sum above 0
   pub reversed-for-kept : ((l ps ns : List Float) (cs : List ℕ) (h : Header) → buildOutcome l ps ns cs .answer ≡ loop h → h .state ≡ Ring → h .weak ≡ false
       → h .reversed ≡ true → SumBelow l (openedCount l)) → ⊥
+  -- a direction by the exact sum of every loop that is steady, whatever its state: EMPTY is kept, and the sum of no turns is 0
+  pub of-every-state : ((l ps ns : List Float) (cs : List ℕ) (h : Header) → buildOutcome l ps ns cs .answer ≡ loop h → h .weak ≡ false → Directed l h) → ⊥

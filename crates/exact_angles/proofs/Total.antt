@@ -107,21 +107,27 @@ chain-up : (T acc acc₁ r p S : Signed) (e : ℕ) → Fractions T → Fractions
     → SLe T (acc₁ ⊹ S) e → SLe acc₁ (acc ⊹ r) 4096 → SLe r p 256 → SLe T (acc ⊹ (p ⊹ S)) (e + 4352)
 chain-up T acc acc₁ r p S e «T'» «A'» «B'» «R'» «P'» «S'» h k l =
     let ap' = fractions-add acc p «A'» «P'» in
-    let x : SLe acc₁ (acc ⊹ p) 4352 = s-trans acc₁ (acc ⊹ r) (acc ⊹ p) 4096 256 «B'» (fractions-add acc r «A'» «R'») ap' k (s-add acc acc r p 0 256 «A'» «A'» «R'» «P'» (s-refl acc) l) in
+    let bs' = fractions-add acc₁ S «B'» «S'» in
+    let aps' = fractions-add acc (p ⊹ S) «A'» (fractions-add p S «P'» «S'») in
+    let o = s-add acc acc r p 0 256 «A'» «A'» «R'» «P'» (s-refl acc) l in
+    let x : SLe acc₁ (acc ⊹ p) 4352 = s-trans acc₁ (acc ⊹ r) (acc ⊹ p) 4096 256 «B'» (fractions-add acc r «A'» «R'») ap' k o in
     let y : SLe (acc₁ ⊹ S) ((acc ⊹ p) ⊹ S) (4352 + 0) = s-add acc₁ (acc ⊹ p) S S 4352 0 «B'» ap' «S'» «S'» x (s-refl S) in
     let z : SLe (acc₁ ⊹ S) (acc ⊹ (p ⊹ S)) (4352 + 0 + 0) =
-    s-trans (acc₁ ⊹ S) ((acc ⊹ p) ⊹ S) (acc ⊹ (p ⊹ S)) (4352 + 0) 0 (fractions-add acc₁ S «B'» «S'») (fractions-add (acc ⊹ p) S ap' «S'») (fractions-add acc (p ⊹ S) «A'» (fractions-add p S «P'» «S'»)) y (s-left acc p S) in
-    s-trans T (acc₁ ⊹ S) (acc ⊹ (p ⊹ S)) e 4352 «T'» (fractions-add acc₁ S «B'» «S'») (fractions-add acc (p ⊹ S) «A'» (fractions-add p S «P'» «S'»)) h z
+    s-trans (acc₁ ⊹ S) ((acc ⊹ p) ⊹ S) (acc ⊹ (p ⊹ S)) (4352 + 0) 0 bs' (fractions-add (acc ⊹ p) S ap' «S'») aps' y (s-left acc p S) in
+    s-trans T (acc₁ ⊹ S) (acc ⊹ (p ⊹ S)) e 4352 «T'» bs' aps' h z
 
 chain-down : (T acc acc₁ r p S : Signed) (e : ℕ) → Fractions T → Fractions acc → Fractions acc₁ → Fractions r → Fractions p → Fractions S
     → SLe (acc₁ ⊹ S) T e → SLe (acc ⊹ r) acc₁ 4096 → SLe p r 256 → SLe (acc ⊹ (p ⊹ S)) T (4352 + e)
 chain-down T acc acc₁ r p S e «T'» «A'» «B'» «R'» «P'» «S'» h k l =
     let ap' = fractions-add acc p «A'» «P'» in
-    let x : SLe (acc ⊹ p) acc₁ 4352 = s-trans (acc ⊹ p) (acc ⊹ r) acc₁ 256 4096 ap' (fractions-add acc r «A'» «R'») «B'» (s-add acc acc p r 0 256 «A'» «A'» «P'» «R'» (s-refl acc) l) k in
+    let bs' = fractions-add acc₁ S «B'» «S'» in
+    let aps' = fractions-add acc (p ⊹ S) «A'» (fractions-add p S «P'» «S'») in
+    let o = s-add acc acc p r 0 256 «A'» «A'» «P'» «R'» (s-refl acc) l in
+    let x : SLe (acc ⊹ p) acc₁ 4352 = s-trans (acc ⊹ p) (acc ⊹ r) acc₁ 256 4096 ap' (fractions-add acc r «A'» «R'») «B'» o k in
     let y : SLe ((acc ⊹ p) ⊹ S) (acc₁ ⊹ S) (4352 + 0) = s-add (acc ⊹ p) acc₁ S S 4352 0 ap' «B'» «S'» «S'» x (s-refl S) in
     let z : SLe (acc ⊹ (p ⊹ S)) (acc₁ ⊹ S) (0 + (4352 + 0)) =
-    s-trans (acc ⊹ (p ⊹ S)) ((acc ⊹ p) ⊹ S) (acc₁ ⊹ S) 0 (4352 + 0) (fractions-add acc (p ⊹ S) «A'» (fractions-add p S «P'» «S'»)) (fractions-add (acc ⊹ p) S ap' «S'») (fractions-add acc₁ S «B'» «S'») (s-right acc p S) y in
-    s-trans (acc ⊹ (p ⊹ S)) (acc₁ ⊹ S) T 4352 e (fractions-add acc (p ⊹ S) «A'» (fractions-add p S «P'» «S'»)) (fractions-add acc₁ S «B'» «S'») «T'» z h
+    s-trans (acc ⊹ (p ⊹ S)) ((acc ⊹ p) ⊹ S) (acc₁ ⊹ S) 0 (4352 + 0) aps' (fractions-add (acc ⊹ p) S ap' «S'») bs' (s-right acc p S) y in
+    s-trans (acc ⊹ (p ⊹ S)) (acc₁ ⊹ S) T 4352 e aps' bs' «T'» z h
 
 summed : (i : ℕ) → 48 ≤ i → (ps : List Pair) (acc : Float) (k : ℕ) → Fin acc → magnitude acc .num ≤ 6 * k * magnitude acc .den → k + length ps ≤ 512 → AllAimed ps
     → Summed (total acc ps) acc (lowSum ps i) (highSum ps i) (4352 * length ps)

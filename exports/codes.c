@@ -2,6 +2,7 @@
    so and fails. Floats go to bytes as they stand: it runs on little-endian machines alone. */
 #include "desk.h"
 #include <stdio.h>
+#include <string.h>
 
 #define T 0.5773502691896258
 #define A 0.816496580927726
@@ -27,6 +28,7 @@ static const double longer[] = {2, 0, 0}, across[] = {0.36, 0.48, 0.8, 0.36, 0.4
 static int wrong = 0;
 static Loop loop, other;
 static uint8_t out[DESK_MOST_LOOP_BYTES];
+static uint8_t scene[DESK_MOST_SCENE_BYTES + 1u], text[DESK_MOST_TEXT_BYTES];
 
 static void hold(const char *what, unsigned long answer, unsigned long wanted) {
     if (answer == wanted)
@@ -170,6 +172,60 @@ static void sizes(void) {
     HOLD(desk_atan2(0x8000000000000000u, 0x7ff8000000000001u), 0x8000000000000000u);
 }
 
+/* A record of a scene at an offset: its kind, its areas and a list; answers the offset after it. */
+static size_t put(size_t at, unsigned kind, unsigned a, unsigned b, const double *list, size_t n) {
+    const unsigned body = (b ? 4u : 2u) + (unsigned)DESK_LIST_BYTES(n);
+    const unsigned bytes[] = {body & 255u, body >> 8, 0, 0, kind, 0, a & 255u, a >> 8, b & 255u, b >> 8};
+    size_t i;
+    for (i = 0; i < (b ? 10u : 8u); i++)
+        scene[at++] = (uint8_t)bytes[i];
+    if (n)
+        memcpy(scene + at, list, DESK_LIST_BYTES(n));
+    return at + DESK_LIST_BYTES(n);
+}
+
+/* Whether the text ends in this line. */
+static int last(size_t size, const char *line) {
+    const size_t n = strlen(line);
+    return size >= n && memcmp(text + size - n, line, n) == 0 && (size == n || text[size - n - 1] == '\n');
+}
+
+/* A text that nearly fills its room: two areas of five digits that intersect, four places, and pairs up to the scene's last byte. A byte
+   more is refused. */
+static void longest(void) {
+    const size_t n = 2 * 36 + 4 * 20 + 6520 * 30 + 9;
+    size_t at = put(put(0, 1, 65534, 0, square, 4), 1, 65535, 0, turned, 4), i;
+    for (i = 0; i < 4; i++)
+        at = put(at, 2, 65534, 0, south, 1);
+    for (i = 0; i < 6520; i++)
+        at = put(at, 3, 65534, 65535, NULL, 0);
+    HOLD(at, DESK_MOST_SCENE_BYTES);
+    HOLD(desk_scene(scene, DESK_MOST_SCENE_BYTES, text, DESK_MOST_TEXT_BYTES), n);
+    HOLD(last(n, "end 6526\n"), 1);
+    HOLD(desk_scene(scene, DESK_MOST_SCENE_BYTES, text, n - 1), DESK_REFUSED_SIZE_ROOM);
+    HOLD(desk_scene(scene, DESK_MOST_SCENE_BYTES + 1u, text, DESK_MOST_TEXT_BYTES) < 40u, 1);
+    HOLD(memcmp(text, "refused ", 8), 0);
+}
+
+static void scenes(void) {
+    const char lines[] = "area 1 3 ring reversed steady 1\nend 1\n";
+    const size_t size = put(0, 1, 1, 0, octant, 3), n = sizeof lines - 1;
+    HOLD(desk_scene(NULL, 0, NULL, 0), DESK_REFUSED_SIZE_ROOM);
+    HOLD(desk_scene(NULL, 0, NULL, 0) - 5u, DESK_REFUSED_SIZE);
+    HOLD(desk_scene(NULL, 0, text, sizeof text), 6);
+    HOLD(last(6, "end 0\n"), 1);
+    memset(text, 'x', n + 1);
+    HOLD(desk_scene(scene, size, text, n - 1), DESK_REFUSED_SIZE_ROOM);
+    HOLD(text[0] == 'x' && memcmp(text, text + 1, n) == 0, 1); /* nothing was written */
+    HOLD(desk_scene(scene, size, text, n), n);
+    HOLD(DESK_IS_REFUSED_SIZE(desk_scene(scene, size, text, n)), 0);
+    HOLD(DESK_IS_REFUSED_SIZE(desk_scene(scene, size, text, n - 1)), 1);
+    HOLD(memcmp(text, lines, n), 0);
+    HOLD(desk_scene(scene, size, text, sizeof text), n);
+    HOLD(text[n], 'x'); /* what lies past the text stays */
+    longest();
+}
+
 int main(void) {
     headers();
     places();
@@ -177,5 +233,6 @@ int main(void) {
     arcs();
     refusals();
     sizes();
+    scenes();
     return wrong;
 }

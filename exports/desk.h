@@ -4,15 +4,17 @@
 
    ANSWERS. Every call returns for every input. An answer below DESK_REFUSED is an answer. One from there on is a
    refusal, DESK_REFUSED plus its number (the constants DESK_REFUSED_..), and then nothing was written to any buffer.
-   Nothing needs to be checked beforehand, and bytes past a result stay as they were.
+   A size is answered as a uint64_t below DESK_REFUSED_SIZE, and a refusal there is DESK_REFUSED_SIZE plus its number
+   (DESK_REFUSED_SIZE_..). Nothing needs to be checked beforehand, and bytes past a result stay as they were.
 
    BUFFERS. A slice is a pointer and a count of elements (bytes, doubles or uint16_t, by the pointer's type); the
    pointer may be null where the count is 0. Bytes may stand at any address; doubles and uint16_t are aligned as C
    aligns them (8 and 2 bytes). Slices that are only read may overlap. A slice that is written overlaps no other.
    Numbers in bytes are little-endian, floats are IEEE 754 binary64. A -0.0 in a position or normal counts as 0.0.
 
-   STACK. A call needs less than DESK_STACK_BYTES of stack: exports/check measures that calls on loops of 512 corners
-   stay below half of it. No memory is taken from the heap; of a C library memcpy and memset are needed.
+   STACK. A call needs less than DESK_STACK_BYTES of stack, desk_scene less than DESK_SCENE_STACK_BYTES: exports/check
+   measures that calls on loops of 512 corners, and a scene of two such areas, stay below half of it. No memory is taken
+   from the heap; of a C library memcpy and memset are needed.
    THREADS. The library has no variable of its own: calls may run at the same time in any number of threads, as long as
    no slice that one call writes is read or written by another meanwhile.
 
@@ -34,7 +36,16 @@
    desk_pair, and DESK_REFUSED_NO_RING of desk_accepts, for empty and full.
    The functions whose names end in _f64 take the same loop in parts: the 88 bytes of the header, 3n doubles of
    positions, 3n of normals, n classes. An ARC is 72 bytes: start, end, normal. A TRIANGLE is three uint16_t, numbers of
-   the ring's corners counted from 0; those of a full loop number the 12 positions of desk_full_positions. */
+   the ring's corners counted from 0; those of a full loop number the 12 positions of desk_full_positions.
+
+   SCENES. A scene is the bytes that the program `scene` reads, and its text what that prints: README.md has both. The
+   text is a line for each record, and then one line that is `end N`, where all N records were read, or
+   `refused NUMBER at RECORD FIELD`, with the offsets of the record and of the field that it is refused for; for 3 and 4
+   also with the INDEX of the position in its list. A text whose last line is neither is broken output: take nothing from
+   it. NUMBER is a call's own (2, 3, 4, 7) or one that a scene's text alone has: 20 the record is cut short, 21 its kind
+   is unknown, 22 its length is wrong for its kind, 23 the area's number is zero, 24 an area before has that number,
+   25 no area before has it, 26 too many areas, 27 too many positions, 28 more than DESK_MOST_SCENE_BYTES.
+   docs/REFUSALS.md has the table. */
 #ifndef DESK_H
 #define DESK_H
 #include <stddef.h>
@@ -56,6 +67,10 @@ extern "C" {
 #define DESK_REFUSED_BOTH_WAYS (DESK_REFUSED + 7u)  /* each of two loops is found in the other */
 #define DESK_REFUSED_NO_EAR (DESK_REFUSED + 8u)     /* the ring cannot be cut into triangles */
 #define DESK_REFUSED_NO_RING (DESK_REFUSED + 9u)    /* triangles of an empty or full loop cannot be checked */
+/* where the answer is a size: from DESK_REFUSED_SIZE on, 2^32 */
+#define DESK_REFUSED_SIZE UINT64_C(4294967296)
+#define DESK_IS_REFUSED_SIZE(answer) ((answer) >= DESK_REFUSED_SIZE)
+#define DESK_REFUSED_SIZE_ROOM (DESK_REFUSED_SIZE + 5u) /* an output is shorter than the result needs */
 
 /* ---- sizes */
 #define DESK_MOST_POSITIONS 512u                    /* in a list, and corners of a ring */
@@ -75,7 +90,10 @@ extern "C" {
 #define DESK_FULL_POSITIONS 12u
 #define DESK_FULL_POSITIONS_FLOATS 36u
 #define DESK_ARC_BYTES 72u
-#define DESK_STACK_BYTES 131072u
+#define DESK_MOST_SCENE_BYTES 65536u                /* a longer scene is refused in its text */
+#define DESK_MOST_TEXT_BYTES 196989u                /* room for the text of any scene */
+#define DESK_STACK_BYTES 131072u                    /* of every call but desk_scene */
+#define DESK_SCENE_STACK_BYTES 655360u
 
 /* ---- codes */
 #define DESK_STATE_EMPTY 0u /* no position lies in it */
@@ -196,6 +214,13 @@ uint32_t desk_pair_f64(const uint8_t *header, size_t header_len, const double *p
                        const uint8_t *other_classes, size_t other_classes_len);
 uint32_t desk_triangles_f64(const uint8_t *header, size_t header_len, const double *positions, size_t positions_len,
                             const uint8_t *classes, size_t classes_len, uint16_t *out, size_t out_len);
+
+/* ---- scenes */
+
+/* How many bytes of text were written to the front of out, with no zero byte after them. A scene that is refused is a
+   text too, whose last line says so: the only refusal is DESK_REFUSED_SIZE_ROOM, where out is shorter than the text.
+   DESK_MOST_TEXT_BYTES always suffice. */
+uint64_t desk_scene(const uint8_t *scene, size_t scene_len, uint8_t *out, size_t out_len);
 
 /* ---- numbers, as the 64 bits of a double, never refused; every NaN is answered as 7FF8000000000000 */
 

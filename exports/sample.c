@@ -1,5 +1,5 @@
 /* A whole program over desk.h, plain C99 and C++: two areas are built, asked, compared and cut, and then come a refusal,
-   a ring that is mute, and a full loop. What it prints is exports/sample.txt. */
+   a ring that is mute, a full loop, and the same two areas as a scene. What it prints is exports/sample.txt. */
 #include "desk.h"
 #include <stdio.h>
 #include <string.h>
@@ -119,6 +119,85 @@ static void cut_full(const Area *area) {
     printf("full: triangles %u, the last one starts at (%.3f, %.3f, %.3f)\n", (unsigned)n, p[0], p[1], p[2]);
 }
 
+/* A record of a scene: the length of its body, its kind, and the body, numbers of areas and then positions. Answers its
+   length. */
+enum { AREA = 1, PLACE = 2, PAIR = 3 };
+static size_t put_record(uint8_t *to, unsigned kind, const unsigned *areas, size_t count, const double *list,
+                         size_t n) {
+    const size_t body = 2 * count + DESK_LIST_BYTES(n);
+    size_t i;
+    for (i = 0; i < 4; i++)
+        to[i] = (uint8_t)(body >> (8 * i));
+    to[4] = (uint8_t)kind;
+    to[5] = 0;
+    for (i = 0; i < 2 * count; i++)
+        to[6 + i] = (uint8_t)(areas[i / 2] >> (8 * (i % 2)));
+    put_floats(to + 6 + 2 * count, list, DESK_LIST_FLOATS(n));
+    return 6 + body;
+}
+
+/* The numbers of a line, at most so many; answers how many there are. */
+static unsigned numbers(const char *line, unsigned *to, unsigned most) {
+    unsigned n = 0;
+    int within = 0;
+    for (; *line != '\n' && *line != 0; line++) {
+        const int digit = *line >= '0' && *line <= '9';
+        if (digit && !within && n == most)
+            return n;
+        if (digit && !within)
+            to[n++] = 0;
+        if (digit)
+            to[n - 1] = 10 * to[n - 1] + (unsigned)(*line - '0');
+        within = digit;
+    }
+    return n;
+}
+
+/* What the last line of a scene's text says. */
+static void tell(const char *line) {
+    unsigned n[4] = {0, 0, 0, 0};
+    const unsigned count = numbers(line, n, 4);
+    if (strncmp(line, "end ", 4) == 0 && count == 1) {
+        printf("scene: all %u records were read\n", n[0]);
+    } else if (strncmp(line, "refused ", 8) == 0 && count >= 3) {
+        printf("scene: refused %u, the record at byte %u for what stands at byte %u\n", n[0], n[1], n[2]);
+        if (count == 4)
+            printf("scene: it is position %u of its list, counted from 0\n", n[3]);
+    } else {
+        printf("scene: broken output, take nothing from it\n");
+    }
+}
+
+/* Runs a scene with so much room and prints its text. A refusal's number means the same whatever it is added to. */
+static void run(const uint8_t *scene, size_t size, size_t room) {
+    static uint8_t text[DESK_MOST_TEXT_BYTES + 1u];
+    const uint64_t n = desk_scene(scene, size, text, room);
+    size_t from;
+    if (DESK_IS_REFUSED_SIZE(n)) {
+        refused("scene", DESK_REFUSED + (uint32_t)(n - DESK_REFUSED_SIZE));
+        return;
+    }
+    text[n] = 0; /* ours: the library writes none */
+    printf("%s", (const char *)text);
+    for (from = n > 0 ? (size_t)n - 1 : 0; from > 0 && text[from - 1] != '\n'; from--)
+        ;
+    tell((const char *)text + from);
+}
+
+/* The worked example of the scene program: both areas, two places in the first, and the pair. */
+static void run_example(const double *first, const double *second) {
+    static const unsigned areas[] = {1, 2};
+    static const double inside[] = {0.48, 0.6, 0.64}, outside[] = {0.6, 0, 0.8};
+    uint8_t scene[256];
+    size_t n = put_record(scene, AREA, areas, 1, first, 3);
+    n += put_record(scene + n, AREA, areas + 1, 1, second, 3);
+    n += put_record(scene + n, PLACE, areas, 1, inside, 1);
+    n += put_record(scene + n, PLACE, areas, 1, outside, 1);
+    n += put_record(scene + n, PAIR, areas, 2, NULL, 0);
+    run(scene, n, DESK_MOST_TEXT_BYTES);
+    run(scene, n, 0);
+}
+
 int main(void) {
     static const double first[] = {1, 0, 0, 0, 1, 0, 0, 0, 1}, second[] = {1, 0, 0, 0, 1, 0, 0, 0, -1};
     static const double square[] = {0.6, 0, 0.8, 0, 0.6, 0.8, -0.6, 0, 0.8, 0, -0.6, 0.8};
@@ -143,5 +222,6 @@ int main(void) {
         cut_full(&full);
     }
     refused("short", desk_full_positions(NULL, 0));
+    run_example(first, second);
     return 0;
 }

@@ -1,6 +1,7 @@
-/* How much stack each call takes: the stack below is painted, the call made on loops of 512 corners, and what is no longer
-   paint is counted. Prints the most, and fails where that is not below half of DESK_STACK_BYTES, so that the paths that these
-   inputs do not take have as much again. */
+/* How much stack each call takes: the stack below is painted, the call made on loops of 512 corners, or a scene of two such
+   areas run, and what is no longer paint is counted. Prints the most, and what the scene took, and fails where that is not
+   below half of DESK_STACK_BYTES and of DESK_SCENE_STACK_BYTES, so that the paths that these inputs do not take have as much
+   again. */
 #include "desk.h"
 #include <stdio.h>
 #include <string.h>
@@ -18,6 +19,8 @@ static Loop a, b;
 static uint8_t triangles[DESK_MOST_TRIANGLES_BYTES], arc[DESK_ARC_BYTES], other[DESK_ARC_BYTES], out[DESK_ARC_BYTES];
 static uint16_t numbers[DESK_TRIANGLES_NUMBERS(N)];
 static double full[DESK_FULL_POSITIONS_FLOATS];
+static uint8_t scene[DESK_MOST_SCENE_BYTES], text[DESK_MOST_TEXT_BYTES];
+static size_t scene_size = 0;
 
 static __attribute__((noinline)) void paint(void) {
     volatile uint8_t room[ROOM];
@@ -58,11 +61,28 @@ static void make(Loop *l, double size) {
     }
 }
 
+/* A record more of the scene: its kind, its areas and a list of positions. */
+static void put(uint8_t kind, uint8_t a, uint8_t b, const double *list, size_t n) {
+    const size_t body = (b ? 4 : 2) + DESK_LIST_BYTES(n);
+    const uint8_t bytes[] = {(uint8_t)body, (uint8_t)(body >> 8), 0, 0, kind, 0, a, 0, b, 0};
+    memcpy(scene + scene_size, bytes, sizeof bytes);
+    scene_size += 6 + body;
+    if (n)
+        memcpy(scene + scene_size - DESK_LIST_BYTES(n), list, DESK_LIST_BYTES(n));
+}
+
+/* Both loops as areas, cut as every area is, a place in one, and the pair: all four records must be read. */
+static uint32_t run_scene(void) {
+    const uint64_t size = desk_scene(scene, scene_size, text, sizeof text);
+    return !DESK_IS_REFUSED_SIZE(size) && size >= 6 && memcmp(text + size - 6, "end 4\n", 6) == 0 ? 0 : DESK_REFUSED;
+}
+
 #define BYTES(x) (uint8_t *)(x)
 #define WHOLE(l) (l).bytes, sizeof(l).bytes
 #define PARTS(l) (l).header, DESK_HEADER_BYTES, (l).positions, DESK_LIST_FLOATS(N), (l).normals, DESK_LIST_FLOATS(N), (l).classes, N
 
-/* The calls by number; what each must answer is in `wanted`. */
+/* The calls by number: none of them is refused. */
+#define SCENE 24
 static uint32_t call(int which) {
     switch (which) {
     case 0: return desk_build(BYTES(a.list), DESK_LIST_BYTES(N), WHOLE(a));
@@ -89,28 +109,35 @@ static uint32_t call(int which) {
     case 21: return desk_arc_intersection(arc, sizeof arc, other, sizeof other, out, sizeof out);
     case 22: return desk_arc_relate(arc, sizeof arc, other, sizeof other, out, sizeof out);
     case 23: return desk_full_positions(full, DESK_FULL_POSITIONS_FLOATS);
-    case 24: return (uint32_t)(desk_root(0x4000000000000000u) >> 32);
+    case SCENE: return run_scene();
+    case 25: return (uint32_t)(desk_root(0x4000000000000000u) >> 32);
     default: return (uint32_t)(desk_atan2(0x4000000000000000u, 0x3ff0000000000000u) >> 32);
     }
 }
-#define CALLS 26
+#define CALLS 27
 
 int main(void) {
-    size_t most = 0;
+    size_t most = 0, of_scene = 0;
     int which, worst = 0;
     make(&a, 0.5);
     make(&b, 0.25);
+    put(1, 1, 0, a.list, N);
+    put(1, 2, 0, b.list, N);
+    put(2, 1, 0, b.list, 1);
+    put(3, 1, 2, NULL, 0);
     for (which = 0; which < CALLS; which++) {
         size_t taken;
         uint32_t answer;
         paint();
         answer = call(which);
         taken = touched();
-        if (which < 24 && DESK_IS_REFUSED(answer)) {
+        if (which <= SCENE && DESK_IS_REFUSED(answer)) {
             printf("stack: call %d is refused %u\n", which, (unsigned)(answer - DESK_REFUSED));
             return 1;
         }
-        if (taken > most) {
+        if (which == SCENE)
+            of_scene = taken;
+        else if (taken > most) {
             most = taken;
             worst = which;
         }
@@ -118,6 +145,6 @@ int main(void) {
         printf("call %d: answer %u, %u bytes\n", which, (unsigned)answer, (unsigned)taken);
 #endif
     }
-    printf("stack: at most %u bytes (call %d)\n", (unsigned)most, worst);
-    return most >= DESK_STACK_BYTES / 2;
+    printf("stack: at most %u bytes (call %d), a scene %u\n", (unsigned)most, worst, (unsigned)of_scene);
+    return most >= DESK_STACK_BYTES / 2 || of_scene >= DESK_SCENE_STACK_BYTES / 2;
 }

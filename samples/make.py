@@ -64,6 +64,9 @@ SEVEN = area(1, [(-0.8, 0.0, -0.6), X, (0.64, -0.48, 0.6)]) + area(2, [(0.0, -1.
 # 80 + 2,043 * 32 + 8 * 10 bytes
 LONGEST = A + join(place(1, unit(1, 1, 1)) for _ in range(2043)) + join(pair(1, 1) for _ in range(8))
 assert len(LONGEST) == 65536
+SIXTEEN = join(area(k, []) for k in range(1, 17))
+# A has three of the 1,024 positions
+TOO_MANY = [NAN] * 1022
 
 scenes = [
     ('empty input', b''),
@@ -111,6 +114,49 @@ scenes = [
     ('513 positions in a list', area(1, round_pole(513, 0.5))),
     ('65,537 bytes', LONGEST + b'\x00'),
     ('65,536 bytes', LONGEST),
+    # which number comes first, and its field (SCOPE 46 and 47)
+    ('65,537 bytes that make no record: 28 before 20', b'\xff' * 65537),
+    ('cut short at the last byte that a scene may have', struct.pack('<IH', 65531, 1) + bytes(65530)),
+    ('cut short: one byte', A + b'\x00'),
+    ('cut short: five bytes', b'\xff' * 5),
+    ('cut short: a length that comes round to its own record', A + struct.pack('<IH', 2**32 - 6, 3) + b'\x01\x00\x01\x00'),
+    ('cut short, of an unknown kind: 20 before 21', A + record(9, b'\x01\x00')[:-1]),
+    ('cut short, of a wrong length: 20 before 22', A + record(3, b'\x01\x00\x01')[:-1]),
+    ('cut short, its number 0: 20 before 23', A + pair(0, 1)[:-1]),
+    ('an unknown kind of a length that no kind has: 21 before 22', A + record(4, bytes(3))),
+    ('an area of 1 byte', A + record(1, b'\x02')),
+    ('a pair of 0 and 1, a byte too long: 22 before 23', A + record(3, bytes([0, 0, 1, 0, 0]))),
+    ('an area repeated, a byte too long: 22 before 24', A + record(1, b'\x01\x00\x00')),
+    ('a place in an area not yet met, a byte too short: 22 before 25', A + record(2, b'\x02' + bytes(24))),
+    ('a 17th area, a byte too long: 22 before 26', SIXTEEN + record(1, bytes([17, 0, 0]))),
+    ('a place in area 0, before its NaN', A + place(0, NAN)),
+    ('a pair whose first number is 0', A + pair(0, 1)),
+    ('a pair whose second number is 0', A + pair(1, 0)),
+    ('a pair of 0 and 0: the first', A + pair(0, 0)),
+    ('a pair of one not yet met and 0: 23 of the second before 25 of the first', A + pair(9, 0)),
+    ('a pair of 0 and one not yet met', A + pair(0, 9)),
+    ('a 17th area with number 0: 23 before 26', SIXTEEN + area(0, [])),
+    ('area number 0 and 1,025 positions: 23 before 27', A + area(0, TOO_MANY)),
+    ('an area repeated, before its NaN', A + area(1, [NAN])),
+    ('a 17th area with the number of the 16th: 24 before 26', SIXTEEN + area(16, [])),
+    ('an area repeated, 1,025 positions: 24 before 27', A + area(1, TOO_MANY)),
+    ('a pair of two not yet met: the first', A + pair(3, 2)),
+    ('a place in an area that comes later', place(1, Z) + A),
+    ('an area to itself', A + pair(1, 1)),
+    ('a 17th area, before its NaN', SIXTEEN + area(17, [NAN])),
+    ('a 17th area, 1,025 positions: 26 before 27', SIXTEEN + area(17, [NAN] * 1025)),
+    ('1,025 positions of two areas, before 2 and 3 of the second', A + area(2, TOO_MANY)),
+    ('1,025 positions, a closing one among them', area(1, [X, Y, Z, X]) + area(2, [NAN] * 1021)),
+    ('1,024 positions in a list: refusal 2', area(1, [NAN] * 1024)),
+    ('513 positions in a list, the last one closing', area(1, round_pole(512, 0.5) + round_pole(512, 0.5)[:1])),
+    ('refusal 4 of the third position: index 2', A + area(2, [X, Y, FAR, Z])),
+    ('refusal 3 of the first position: index 0', area(2, [NAN, X, Y])),
+    ('refusal 3 of the last of 512 positions: index 511', A + area(2, [X] * 511 + [NAN])),
+    ('several faulty positions: the first of them', A + area(2, [X, Y, NAN, X, FAR, NAN]) + pair(1, 2)),
+    ('a position with a NaN and a great component: 3 before 4', A + area(2, [X, (2.0, 0.0, float('nan'))])),
+    ('a closing position that equals a faulty first one: index 0', A + area(2, [FAR, X, Y, FAR])),
+    ('refusal 4 of a position behind the closing one', A + area(2, [X, Y, Z, X, (0.0, 0.0, 0.0)])),
+    ('nothing is read after a refusal', A + pair(1, 9) + area(9, [X, Y, Z]) + record(9, b'') + b'\x00'),
 ]
 
 
@@ -118,6 +164,8 @@ def part(b):
     return struct.pack('<I', len(b)) + b
 
 
+# `scene_tests` has room for no more
+assert all(len(title) <= 97 and len(scene) <= 65537 for title, scene in scenes)
 here = os.path.dirname(os.path.abspath(__file__))
 with open(os.path.join(here, '..', 'crates', 'scene_tests', 'stdin'), 'wb') as f:
     f.write(struct.pack('<I', len(scenes)) + join(part(f'# {title}\n'.encode()) + part(scene) for title, scene in scenes))

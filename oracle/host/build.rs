@@ -1,8 +1,7 @@
-// Links the probes, libtest_probes.a, beside the exports that `desk` links. The stand-in has them in its libexports.a, and a
-// scene as a function too.
+// Links the probes, libtest_probes.a, beside the exports that `desk` links. The stand-in has them in its libexports.a.
 include!("../desk/link.rs");
 
-const NAMES: [&str; 5] = ["leaf_vec", "leaf_number", "leaf_case", "leaf_cap", "desk_scene"];
+const NAMES: [&str; 4] = ["leaf_vec", "leaf_number", "leaf_case", "leaf_cap"];
 
 fn main() {
     println!("cargo:rerun-if-changed=build.rs");

@@ -3,16 +3,16 @@ use Prim.Native.Nat.{ℕ}
 use mathlib.Core.Path.{_≡_, refl}
 use mathlib.Core.Bool.{Bool, true, false}
 use mathlib.Core.Logic.{_⊎_, inl, inr, ⊎-elim}
-use mathlib.Core.List.{List}
 use lib.Ieee.{Float, le}
 use Rattle.numbers.specs.Finite.{finite}
 use Rattle.numbers.specs.Choice.{if_then_else_}
 use Rattle.vec3.specs.declared.Vec3.{Vec3}
 use Rattle.vec3.specs.Vec.{dot, posAt}
-use Rattle.judge.specs.Judge.{least, greatest, finiteVec, inRange, withinRange, vectorFault, faultOf, positionsFault}
+use Rattle.judge.specs.Judge.{least, greatest, finiteVec, inRange, withinRange, vectorFault, faultOf}
 use Rattle.judge.specs.Why.{Exactly, Finite, NotFinite, in-x, in-y, in-z, VectorWhy, finite-vector, not-finite-vector}
-use Rattle.judge.specs.Why.{InRange, OffRange, below, above, PositionWhy, fine, not-finite, off-range, PositionsWhy, Exact}
+use Rattle.judge.specs.Why.{InRange, OffRange, below, above, PositionWhy, fine, not-finite, off-range, Exact}
 use Rattle.judge.proofs.Exactly.{exactly, Tells, tells, both-tell, retell, each-exact}
+use Rattle.judge.proofs.Refused.{follows, index, no-other}
 
 -- ---- what the two tests tell
 pub finite-tells : (v : Vec3) → Tells (finiteVec v) (Finite v) (NotFinite v)
@@ -75,4 +75,7 @@ exact = record {
   vector = vector-exact;
   position = position-exact;
   positions = λ l n. each-exact {Why = λ i. PositionWhy (posAt l i)} n (λ i h. position-exact (posAt l i));
+  follows = follows;
+  index = λ l n. index l n (λ i. position-exact (posAt l i));
+  no-other = λ l n. no-other l n (λ i. position-exact (posAt l i));
 }

@@ -7,7 +7,7 @@ use lib.Ieee.{Float, le}
 use Rattle.numbers.specs.Finite.{finite}
 use Rattle.vec3.specs.declared.Vec3.{Vec3}
 use Rattle.vec3.specs.Vec.{dot, posAt}
-use Rattle.judge.specs.Judge.{least, greatest, faultOf, vectorFault, positionsFault}
+use Rattle.judge.specs.Judge.{least, greatest, faultOf, vectorFault, firstRefused, faultBelow, positionsFault}
 
 -- ---- the words of "exactly when"
 -- a number is given exactly when there is this reason for it
@@ -69,8 +69,18 @@ pub data PositionWhy (p : Vec3) : ℕ → Type 0 where
 abbrev pub PositionsWhy : List Float → ℕ → ℕ → Type 0
 PositionsWhy l n = FirstWhy (λ i. PositionWhy (posAt l i)) n
 
+-- SCOPE 46: of n positions the one at an index is the first that is refused: the index is below n, every earlier position is refused for nothing, the one there for k
+pub record Stands (l : List Float) (n k index : ℕ) : Type 0 where
+  pub below : index < n
+  pub earlier : (j : ℕ) → j < index → PositionWhy (posAt l j) 0
+  pub here : PositionWhy (posAt l index) k
+
 -- ---- SCOPE 25: 3 and 4 are given exactly when
 pub record Exact : Type 0 where
   pub vector : (v : Vec3) → Exactly (vectorFault v 0) (VectorWhy v)
   pub position : (p : Vec3) → Exactly (faultOf p) (PositionWhy p)
   pub positions : (l : List Float) (n : ℕ) → Exactly (positionsFault l n) (PositionsWhy l n)
+  -- SCOPE 46: one definition has the index and the number; a number is given with the index at which it stands, and with no other
+  pub follows : (l : List Float) (n : ℕ) → positionsFault l n ≡ faultBelow l n (firstRefused l n)
+  pub index : (l : List Float) (n k : ℕ) → positionsFault l n ≡ suc k → Stands l n (suc k) (firstRefused l n)
+  pub no-other : (l : List Float) (n k i : ℕ) → Stands l n (suc k) i → (positionsFault l n ≡ suc k) × (firstRefused l n ≡ i)

@@ -4,7 +4,7 @@ ghost use mathlib.Core.Path.{_≡_};
 ghost use Prim.Native.Nat.{_*_, _≤_};
 ghost use lib.ListN.{length};
 ghost use Rattle.laws.specs.Loop as Loop;
-ghost use Rattle.judge.specs.Judge.{finiteVec, faultOf, vectorFault, positionsFault, vectorsFault};
+ghost use Rattle.judge.specs.Judge.{finiteVec, faultOf, vectorFault, firstRefused, positionsFault, vectorsFault};
 use vec3::Vec3;
 
 // The ends of the range of a squared norm, 1 - 2^-40 and 1 + 2^-40, both included.
@@ -51,18 +51,30 @@ pub fn vector_fault(v: Vec3) -> u8
     if is_finite(v) { 0 } else { 3 }
 }
 
-// The first refusal that one of n positions gives.
+// The index of the first of n positions that is refused, n where none is.
+pub fn first_refused(ps: &[f64], n: usize) -> usize
+    requires { ⌜ 3 * n ≤ length (now ps) ⌝ }
+    ensures { λ r. ⌜ r ≡ firstRefused (now (ps .entry)) n ⌝ }
+    ensures { λ r. ⌜ r ≤ n ⌝ }
+{
+    for i in 0..n {
+        if fault(vec3::at(ps, i)) != 0 {
+            return i;
+        }
+    }
+    n
+}
+
+// The refusal of that one, 0 where there is none.
 pub fn positions_fault(ps: &[f64], n: usize) -> u8
     requires { ⌜ 3 * n ≤ length (now ps) ⌝ }
     ensures { λ r. ⌜ r ≡ positionsFault (now (ps .entry)) n ⌝ }
 {
-    for i in 0..n {
-        let f = fault(vec3::at(ps, i));
-        if f != 0 {
-            return f;
-        }
+    let i = first_refused(ps, n);
+    if n <= i {
+        return 0;
     }
-    0
+    fault(vec3::at(ps, i))
 }
 
 // The first refusal that one of n normals gives.

@@ -12,7 +12,7 @@ use Rattle.ring_theory.specs.Ring.{prev, next}
 use Rattle.ring_theory.proofs.Indexes.{nth, Increasing, apart-at, increasing-without}
 use Rattle.ring_ears.specs.Ears.{Remaining, cutAt}
 use Rattle.ring_cut.specs.Accepted.{CutBy, last, cut, Eligible}
-use Rattle.ring_cut.proofs.Firsts.{first-has, is-first}
+use Rattle.laws.proofs.Indexes.{first-has, is-first}
 use Rattle.ring_cut.proofs.Relations.{length-cut}
 use Rattle.ring_check.specs.Accepted.{isNumber, indexOf, fitsAt, sameNumbers, accepts}
 use Rattle.ring_check.proofs.Followings.{both, accepts-on, accepts-off, accepts-end}

@@ -10,7 +10,7 @@ use lib.ListN.{length}
 use Rattle.ring_ears.specs.Ears.{ear, Remaining, cutAt}
 use Rattle.ring_cut.specs.Cut.{Cutting, lowestOf, cutting}
 use Rattle.ring_cut.specs.Accepted.{Lowest}
-use Rattle.ring_cut.proofs.Firsts.{first-has, none-before, is-first}
+use Rattle.laws.proofs.Indexes.{first-has, none-before, is-first}
 use Rattle.ring_cut.proofs.Steps.{cutting-on, cutting-stuck, cutting-end}
 use Rattle.ring_cut.proofs.Relations.{length-cut, is-lowest}
 use Rattle.ring_check.specs.Demand.{Reaches, here, cut, MeetsNoEar}

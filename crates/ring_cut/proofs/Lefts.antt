@@ -13,7 +13,7 @@ use Rattle.ring_theory.proofs.Withouts.{length-without}
 use Rattle.ring_ears.specs.Ears.{Lent, convex, ear, Remaining, cutAt, cutIn}
 use Rattle.ring_reflex.specs.Lowest.{lowest}
 use Rattle.ring_ears.proofs.Indexes.{relent, lent-without}
-use Rattle.ring_cut.proofs.Firsts.{first-has}
+use Rattle.laws.proofs.Indexes.{first-has}
 
 abbrev pub left : List ℕ → List ℕ → ℕ → Remaining
 left ids classes m = record { ids = take m ids; classes = classes }

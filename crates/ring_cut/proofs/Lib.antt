@@ -1,4 +1,3 @@
-pub mod Firsts
 pub mod Lefts
 pub mod Lists
 pub mod Steps

@@ -2,7 +2,7 @@
 use Prim.Native.Nat.{_≤_}
 use native.Mathlib.Omega.{arith}
 use Rattle.scene_lines.specs.declared.Line.{Line}
-use Rattle.scene_lines.specs.declared.Line.the-variants.{Area, Place, Pair, End, Refused}
+use Rattle.scene_lines.specs.declared.Line.the-variants.{Area, Place, Pair, End, Refused, RefusedAt}
 use Rattle.scene_lines.specs.Lines.{roomOf}
 
 pub longest : (l : Line) → roomOf l ≤ 45
@@ -11,4 +11,5 @@ longest (Area number h triangles) = omega arith
 longest (Place number answer) = omega arith
 longest (Pair first second relation) = omega arith
 longest (End records) = omega arith
-longest (Refused number offset) = omega arith
+longest (Refused number offset field) = omega arith
+longest (RefusedAt number offset field index) = omega arith

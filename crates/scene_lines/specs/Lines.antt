@@ -1,4 +1,4 @@
--- SCOPE 30: the text of a scene's lines, as bytes. Definitions only.
+-- SCOPE 30, 46: the text of a scene's lines, as bytes. Definitions only.
 use Prim.Native.Nat.{ℕ}
 use mathlib.Core.List.{List, _++_}
 use Rattle.loop_header.specs.declared.Header.{Header}
@@ -6,7 +6,7 @@ use Rattle.loop_header.specs.Loops.{mute}
 use Rattle.scene_words.specs.Bytes.{bytes}
 use Rattle.scene_words.specs.Words.{decimal, stateWord, turnedWord, sureWord, placeWord, relationWord}
 use Rattle.scene_lines.specs.declared.Line.{Line}
-use Rattle.scene_lines.specs.declared.Line.the-variants.{Area, Place, Pair, End, Refused}
+use Rattle.scene_lines.specs.declared.Line.the-variants.{Area, Place, Pair, End, Refused, RefusedAt}
 
 abbrev pub marksWords : Header → List ℕ
 marksWords h = stateWord (h .state) (mute h) ++ turnedWord (h .reversed) ++ sureWord (h .weak)
@@ -28,9 +28,16 @@ pairLine first second relation = bytes "pair " ++ decimal first ++ bytes " " ++ 
 unfoldable pub endLine : ℕ → List ℕ
 endLine records = bytes "end " ++ decimal records ++ bytes "\n"
 
--- the refusal's number, and the offset of its record
-unfoldable pub refusedLine : ℕ → ℕ → List ℕ
-refusedLine number offset = bytes "refused " ++ decimal number ++ bytes " at " ++ decimal offset ++ bytes "\n"
+-- SCOPE 46: the refusal's number, and the offsets of its record and of its field
+abbrev pub refusalWords : ℕ → ℕ → ℕ → List ℕ
+refusalWords number offset field = bytes "refused " ++ decimal number ++ bytes " at " ++ decimal offset ++ bytes " " ++ decimal field
+
+unfoldable pub refusedLine : ℕ → ℕ → ℕ → List ℕ
+refusedLine number offset field = refusalWords number offset field ++ bytes "\n"
+
+-- the same with the index of a position in its list
+unfoldable pub refusedAtLine : ℕ → ℕ → ℕ → ℕ → List ℕ
+refusedAtLine number offset field index = refusalWords number offset field ++ bytes " " ++ decimal index ++ bytes "\n"
 
 -- a line by its kind
 abbrev pub lineText : Line → List ℕ
@@ -38,12 +45,14 @@ lineText (Area number h triangles) = areaLine number h triangles
 lineText (Place number answer) = placeLine number answer
 lineText (Pair first second relation) = pairLine first second relation
 lineText (End records) = endLine records
-lineText (Refused number offset) = refusedLine number offset
+lineText (Refused number offset field) = refusedLine number offset field
+lineText (RefusedAt number offset field index) = refusedAtLine number offset field index
 
--- the most bytes that a line takes
+-- the most bytes that a line takes: no number has more than five digits
 unfoldable pub roomOf : Line → ℕ
 roomOf (Area number h triangles) = 45
 roomOf (Place number answer) = 20
 roomOf (Pair first second relation) = 30
 roomOf (End records) = 10
-roomOf (Refused number offset) = 23
+roomOf (Refused number offset field) = 29
+roomOf (RefusedAt number offset field index) = 35

@@ -8,13 +8,15 @@ ghost use Rattle.scene_lines.specs.Lines as L;
 use loop_header::Header;
 use vec3::Insides;
 
-// What a line says. An answer and a relation go by their numbers; the last line of a scene is `End` or `Refused`.
+// What a line says. An answer and a relation go by their numbers; the last line of a scene is `End`, `Refused` (the number, the offsets of the record and of
+// the field) or `RefusedAt`, which adds the index of a position in its list.
 pub enum Line {
     Area(usize, Header, usize),
     Place(usize, u8),
     Pair(usize, usize, u8),
     End(usize),
-    Refused(u8, usize),
+    Refused(u8, usize, usize),
+    RefusedAt(u8, usize, usize, usize),
 }
 
 fn is_absent(i: Insides) -> bool
@@ -91,16 +93,45 @@ fn put_end(out: &mut [u8], at: usize, records: usize) -> usize
     scene_words::put(out, b, b"\n")
 }
 
-fn put_refused(out: &mut [u8], at: usize, number: u8, offset: usize) -> usize
-    requires { ⌜ at + 23 ≤ length (now out) ⌝ }
-    ensures { λ r. ⌜ Wrote (now (out .entry)) at (L.refusedLine number offset) (now (out .exit)) r ⌝ }
-    ensures { λ r. ⌜ r ≤ at + 23 ⌝ }
+// A refusal's line up to its field, without the line's end.
+fn put_refusal(out: &mut [u8], at: usize, number: u8, offset: usize, field: usize) -> usize
+    requires { ⌜ at + 28 ≤ length (now out) ⌝ }
+    ensures { λ r. ⌜ Wrote (now (out .entry)) at (L.refusalWords number offset field) (now (out .exit)) r ⌝ }
+    ensures { λ r. ⌜ r ≤ at + 28 ⌝ }
 {
     let a = scene_words::put(out, at, b"refused ");
     let b = scene_words::put_number(out, a, number as usize);
     let c = scene_words::put(out, b, b" at ");
     let d = scene_words::put_number(out, c, offset);
-    scene_words::put(out, d, b"\n")
+    let e = scene_words::put(out, d, b" ");
+    scene_words::put_number(out, e, field)
+}
+
+fn put_refused(out: &mut [u8], at: usize, number: u8, offset: usize, field: usize) -> usize
+    requires { ⌜ at + 29 ≤ length (now out) ⌝ }
+    ensures { λ r. ⌜ Wrote (now (out .entry)) at (L.refusedLine number offset field) (now (out .exit)) r ⌝ }
+    ensures { λ r. ⌜ r ≤ at + 29 ⌝ }
+{
+    let a = put_refusal(out, at, number, offset, field);
+    scene_words::put(out, a, b"\n")
+}
+
+fn put_refused_at(
+    out: &mut [u8],
+    at: usize,
+    number: u8,
+    offset: usize,
+    field: usize,
+    index: usize,
+) -> usize
+    requires { ⌜ at + 35 ≤ length (now out) ⌝ }
+    ensures { λ r. ⌜ Wrote (now (out .entry)) at (L.refusedAtLine number offset field index) (now (out .exit)) r ⌝ }
+    ensures { λ r. ⌜ r ≤ at + 35 ⌝ }
+{
+    let a = put_refusal(out, at, number, offset, field);
+    let b = scene_words::put(out, a, b" ");
+    let c = scene_words::put_number(out, b, index);
+    scene_words::put(out, c, b"\n")
 }
 
 // Writes a line, of at most 45 bytes.
@@ -114,6 +145,9 @@ pub fn put_line(out: &mut [u8], at: usize, line: Line) -> usize
         Line::Place(number, answer) => put_place(out, at, number, answer),
         Line::Pair(first, second, relation) => put_pair(out, at, first, second, relation),
         Line::End(records) => put_end(out, at, records),
-        Line::Refused(number, offset) => put_refused(out, at, number, offset),
+        Line::Refused(number, offset, field) => put_refused(out, at, number, offset, field),
+        Line::RefusedAt(number, offset, field, index) => {
+            put_refused_at(out, at, number, offset, field, index)
+        }
     }
 }

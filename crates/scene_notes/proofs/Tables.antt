@@ -1,5 +1,5 @@
 -- The table of the areas met. Assumes nothing.
-use Prim.Native.Nat.{ℕ, zero, suc, _+_, _≤_, _<_}
+use Prim.Native.Nat.{ℕ, zero, suc, _+_, _*_, _≤_, _<_}
 use mathlib.Core.Path.{_≡_, refl, sym, ap, _∙_}
 use mathlib.Core.Bool.{Bool, true, false, cond}
 use mathlib.Core.List.{List, [], _∷_}
@@ -8,14 +8,18 @@ use native.Mathlib.Omega.{arith}
 use lib.ListN.{length, take, getD, length-set}
 use lib.Seq.{getD-take, length-take-le}
 use lib.Dec.{ltb, leb, eqb}
-use borrow.Author.Tests.{ltb-false, leb-false}
+use borrow.Author.Tests.{lt-ltb, le-ltb, ltb-false, leb-false}
+use Rattle.laws.specs.Loop.{firstAt}
 use Rattle.laws.proofs.Loops.{Look, look}
+use Rattle.laws.proofs.Indexes.{none-before}
 use Rattle.scene_store.specs.declared.Area.{Area}
 use Rattle.scene_store.specs.Store.{nobody}
-use Rattle.scene_records.specs.declared.Fault.the-variants.{NoNumber, Repeated, ManyAreas, ManyPositions}
+use Rattle.scene_records.specs.declared.Fault.{Fault}
+use Rattle.scene_records.specs.declared.Fault.the-variants.{NoNumber, Repeated, NotMet, ManyAreas, ManyPositions}
 use Rattle.scene_notes.specs.declared.Notes.{Notes}
+use Rattle.scene_notes.specs.declared.Judged.{Judged}
 use Rattle.scene_notes.specs.declared.Judged.the-variants.{Fine, Bad}
-use Rattle.scene_notes.specs.Noted.{indexOf, Kept, areasOf, noAreas, freshNotes, passedNotes, Addable, addedNotes, judgeArea}
+use Rattle.scene_notes.specs.Noted.{indexOf, Kept, areasOf, noAreas, freshNotes, passedNotes, Addable, addedNotes, judgeArea, firstZero, isUnmet, isPast, judgeNumbers, judgeNamed}
 
 -- within a list it is all one what stands past its end
 any-default : {A : Type 0} (l : List A) (i : ℕ) (d d′ : A) → i < length l → getD l i d ≡ getD l i d′
@@ -53,20 +57,55 @@ kept-passed size k e = record { few = rw e (k .few); size = rw e (k .size) }
 pub kept-added : {c : Notes} {a : Area} {count : ℕ} → Kept c → Addable c a count → Kept (addedNotes c a count)
 kept-added k x = record { few = omega (arith, x .room); size = simp length-set (k .size) }
 
--- ---- an area that may come in
-fine-told : (a b c d : Bool) → Fine ≡ cond a (Bad NoNumber) (cond b (Bad Repeated) (cond c (Bad ManyAreas) (cond d (Bad ManyPositions) Fine))) → (c ≡ false) × (d ≡ false)
-fine-told true b c d e = (cc, cc)
-fine-told false true c d e = (cc, cc)
-fine-told false false true d e = (cc, cc)
-fine-told false false false true e = (cc, cc)
-fine-told false false false false e = (refl, refl)
+-- ---- a record that is fine, an area that may come in
+fine-by : (b : Bool) (f : Fault) (field : ℕ) {x : Judged} → Fine ≡ cond b (Bad f field) x → (b ≡ false) × (Fine ≡ x)
+fine-by true f field e = (cc, cc)
+fine-by false f field e = (refl, e)
 
 pub record Allowed (met given count : ℕ) : Type 0 where
   pub room : met < 16
   pub few : given + count ≤ 1024
 
-pub allowed : (areas : List Area) (given number count : ℕ) → Fine ≡ judgeArea areas given number count → Allowed (length areas) given count
+pub allowed : (areas : List Area) (given at number count : ℕ) → Fine ≡ judgeArea areas given at number count → Allowed (length areas) given count
 unfolding judgeArea
-allowed areas given number count e =
-    let t = fine-told (eqb number 0) (ltb (indexOf areas number) (length areas)) (leb 16 (length areas)) (ltb 1024 (given + count)) e in
-    record { room = leb-false _ _ (t .0); few = ltb-false _ _ (t .1) }
+allowed areas given at number count e =
+    let numbered = fine-by (eqb number 0) NoNumber _ e .1 in
+    let new = fine-by (ltb (indexOf areas number) (length areas)) Repeated _ numbered .1 in
+    let room = fine-by (leb 16 (length areas)) ManyAreas _ new in
+    let few = fine-by (ltb 1024 (given + count)) ManyPositions _ (room .1) in
+    record { room = leb-false _ _ (room .0); few = ltb-false _ _ (few .0) }
+
+-- ---- numbers that were met: each of them that a record names
+pub all-met : (areas : List Area) (at : ℕ) (numbers : List ℕ) → Fine ≡ judgeNamed areas at numbers → (i : ℕ) → i < length numbers
+    → indexOf areas (getD numbers i 0) < length areas
+unfolding judgeNumbers
+all-met areas at numbers e i h =
+    let none-zero = fine-by (ltb (firstZero numbers) (length numbers)) NoNumber _ e .1 in
+    let none-unmet = fine-by (ltb (firstAt (isUnmet areas numbers) (length numbers) 0) (length numbers)) NotMet _ none-zero .0 in
+    let past : length numbers ≤ firstAt (isUnmet areas numbers) (length numbers) 0 = ltb-false _ _ none-unmet in
+    leb-false _ _ (none-before (isUnmet areas numbers) (length numbers) 0 i (omega arith) (omega (arith, past)))
+
+-- what the two searches find, as a function answers
+module _ (unmet : ℕ → Bool) (at : ℕ) (numbers : List ℕ) {z : ℕ} (e : z ≡ firstZero numbers) where
+  pub zero-judged : z < length numbers → Bad NoNumber (at + 6 + 2 * z) ≡ judgeNumbers unmet at numbers
+  unfolding judgeNumbers
+  zero-judged h = rw (← e, lt-ltb _ _ h)
+
+  module _ (h : length numbers ≤ z) {u : ℕ} (f : u ≡ firstAt unmet (length numbers) 0) where
+    pub unmet-judged : u < length numbers → Bad NotMet (at + 6 + 2 * u) ≡ judgeNumbers unmet at numbers
+    unfolding judgeNumbers
+    unmet-judged g = rw (← e, le-ltb _ _ h, ← f, lt-ltb _ _ g)
+
+    pub fine-judged : length numbers ≤ u → Fine ≡ judgeNumbers unmet at numbers
+    unfolding judgeNumbers
+    fine-judged g = rw (← e, le-ltb _ _ h, ← f, le-ltb _ _ g)
+
+-- one number, and two, judged by their indexes
+pub one-judged : (areas : List Area) (at number : ℕ) {met i : ℕ} → length areas ≡ met → i ≡ indexOf areas number → judgeNumbers (isPast met (i ∷ [])) at (number ∷ []) ≡ judgeNamed areas at (number ∷ [])
+unfolding judgeNumbers firstAt
+one-judged areas at number e f = rw (← e, f)
+
+pub two-judged : (areas : List Area) (at number other : ℕ) {met i j : ℕ} → length areas ≡ met → i ≡ indexOf areas number → j ≡ indexOf areas other
+    → judgeNumbers (isPast met (i ∷ j ∷ [])) at (number ∷ other ∷ []) ≡ judgeNamed areas at (number ∷ other ∷ [])
+unfolding judgeNumbers firstAt
+two-judged areas at number other e f g = rw (← e, f, g)

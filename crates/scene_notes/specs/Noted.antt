@@ -1,14 +1,15 @@
--- What a scene knows between two records, and what the program notes of it (SCOPE 28, 29). Definitions only.
+-- What a scene knows between two records, what the program notes of it, and which faults of a record these tell (SCOPE 28, 29, 46, 47). Definitions only.
 use Prim.Native.Nat.{ℕ, _+_, _*_, _≤_, _<_}
 use mathlib.Core.Path.{_≡_}
-use mathlib.Core.Bool.{cond}
+use mathlib.Core.Bool.{Bool, cond}
 use mathlib.Core.List.{List}
 use lib.ListN.{length, take, getD, set, replicate}
 use lib.Dec.{ltb, leb, eqb}
 use lib.Ieee.{Float}
 use Rattle.laws.specs.Loop.{firstAt}
 use Rattle.loop_header.specs.declared.Header.{Header}
-use Rattle.scene_records.specs.declared.Fault.the-variants.{NoNumber, Repeated, ManyAreas, ManyPositions}
+use Rattle.scene_records.specs.declared.Fault.the-variants.{NoNumber, Repeated, NotMet, ManyAreas, ManyPositions}
+use Rattle.scene_records.specs.Records.{lengthField, bodyField, numberField}
 use Rattle.scene_store.specs.declared.Area.{Area}
 use Rattle.scene_notes.specs.declared.Notes.{Notes}
 use Rattle.scene_notes.specs.declared.Judged.{Judged}
@@ -83,10 +84,37 @@ addedNotes c a count = record {
   areas = set (c .areas) (c .met) a;
 }
 
--- SCOPE 29: whether an area may come in: not with number 0, a number that was met, as the 17th area, or with positions above 1,024 in all
-unfoldable pub judgeArea : List Area → ℕ → ℕ → ℕ → Judged
-judgeArea areas given number count =
-    cond (eqb number 0) (Bad NoNumber)
-    (cond (ltb (indexOf areas number) (length areas)) (Bad Repeated)
-    (cond (leb 16 (length areas)) (Bad ManyAreas)
-    (cond (ltb 1024 (given + count)) (Bad ManyPositions) Fine)))
+-- SCOPE 46: whether an area may come in: not with number 0, a number that was met, as the 17th area, or with positions above 1,024 in all. Its number stands
+-- where the body starts
+unfoldable pub judgeArea : List Area → ℕ → ℕ → ℕ → ℕ → Judged
+judgeArea areas given at number count =
+    cond (eqb number 0) (Bad NoNumber (bodyField at))
+    (cond (ltb (indexOf areas number) (length areas)) (Bad Repeated (bodyField at))
+    (cond (leb 16 (length areas)) (Bad ManyAreas (bodyField at))
+    (cond (ltb 1024 (given + count)) (Bad ManyPositions (lengthField at)) Fine)))
+
+-- the index of the first of a record's numbers that is zero, or how many there are
+abbrev pub isZero : List ℕ → ℕ → Bool
+isZero numbers i = eqb (getD numbers i 0) 0
+
+unfoldable pub firstZero : List ℕ → ℕ
+firstZero numbers = firstAt (isZero numbers) (length numbers) 0
+
+-- whether the number at an index was not met: no area has it; and as the program knows it, by the index of each number among the areas met
+abbrev pub isUnmet : List Area → List ℕ → ℕ → Bool
+isUnmet areas numbers i = leb (length areas) (indexOf areas (getD numbers i 0))
+
+abbrev pub isPast : ℕ → List ℕ → ℕ → Bool
+isPast met indexes i = leb met (getD indexes i 0)
+
+unfoldable pub firstPast : ℕ → List ℕ → ℕ
+firstPast met indexes = firstAt (isPast met indexes) (length indexes) 0
+
+-- SCOPE 47: the numbers that a place or a pair names: the first that is zero, else the first that was not met
+unfoldable pub judgeNumbers : (ℕ → Bool) → ℕ → List ℕ → Judged
+judgeNumbers unmet at numbers =
+    cond (ltb (firstZero numbers) (length numbers)) (Bad NoNumber (numberField at (firstZero numbers)))
+    (cond (ltb (firstAt unmet (length numbers) 0) (length numbers)) (Bad NotMet (numberField at (firstAt unmet (length numbers) 0))) Fine)
+
+abbrev pub judgeNamed : List Area → ℕ → List ℕ → Judged
+judgeNamed areas at numbers = judgeNumbers (isUnmet areas numbers) at numbers

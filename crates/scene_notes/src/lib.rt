@@ -1,7 +1,7 @@
-// What a scene knows between two records, the table of the areas met among it, and whether an area may come in.
+// What a scene knows between two records, the table of the areas met among it, and whether a record's area may come in and its numbers were met.
 ghost use mathlib.Core.Path.{_≡_};
 ghost use Prim.Native.Nat.{_+_, _*_, _≤_, _<_};
-ghost use lib.ListN.{getD};
+ghost use lib.ListN.{length, getD};
 ghost use Rattle.scene_store.specs.Store as St;
 ghost use Rattle.scene_notes.specs.Noted as N;
 use scene_records::Fault;
@@ -17,10 +17,10 @@ pub struct Notes {
     pub areas: [Area; 16],
 }
 
-// Whether an area may come in.
+// Whether a record may be taken, or its fault and that field's offset.
 pub enum Judged {
     Fine,
-    Bad(Fault),
+    Bad(Fault, usize),
 }
 
 // The index of a number among the areas met, or how many there are.
@@ -103,20 +103,63 @@ pub fn added(c: Notes, a: Area, count: usize) -> Notes
 
 // Faults of an area record, ahead of the builder's refusals.
 pub fn judge_area(c: Notes, number: usize, count: usize) -> Judged
-    requires { ⌜ N.Kept c × (c .given ≤ 1024) × (count ≤ 65536) ⌝ }
-    ensures { λ r. ⌜ r ≡ N.judgeArea (N.areasOf c) (c .given) number count ⌝ }
+    requires { ⌜ N.Kept c × (c .at ≤ 65536) × (c .given ≤ 1024) × (count ≤ 65536) ⌝ }
+    ensures { λ r. ⌜ r ≡ N.judgeArea (N.areasOf c) (c .given) (c .at) number count ⌝ }
 {
+    let field = c.at + 6;
     if number == 0 {
-        return Judged::Bad(Fault::NoNumber);
+        return Judged::Bad(Fault::NoNumber, field);
     }
     if index_of(c, number) < c.met {
-        return Judged::Bad(Fault::Repeated);
+        return Judged::Bad(Fault::Repeated, field);
     }
     if 16 <= c.met {
-        return Judged::Bad(Fault::ManyAreas);
+        return Judged::Bad(Fault::ManyAreas, field);
     }
     if 1024 < c.given + count {
-        return Judged::Bad(Fault::ManyPositions);
+        return Judged::Bad(Fault::ManyPositions, c.at);
+    }
+    Judged::Fine
+}
+
+// The index of the first of a record's numbers that is zero, or how many there are.
+fn first_zero(numbers: &[usize]) -> usize
+    ensures { λ r. ⌜ r ≡ N.firstZero (now (numbers .entry)) ⌝ }
+{
+    for i in 0..numbers.len() {
+        if numbers[i] == 0 {
+            return i;
+        }
+    }
+    numbers.len()
+}
+
+// The same of the first that no area met has: its index among them is past the last.
+fn first_unmet(met: usize, indexes: &[usize]) -> usize
+    ensures { λ r. ⌜ r ≡ N.firstPast met (now (indexes .entry)) ⌝ }
+{
+    for i in 0..indexes.len() {
+        if met <= indexes[i] {
+            return i;
+        }
+    }
+    indexes.len()
+}
+
+// Faults of the numbers that a place or a pair names, by their indexes among the areas met: of all of them zero comes before not met. The notes stay
+// with the caller, since by value they would be copied.
+pub fn judge_numbers(at: usize, met: usize, numbers: &[usize], indexes: &[usize]) -> Judged
+    requires { ⌜ (at ≤ 65536) × (length (now numbers) ≤ 2) × (length (now indexes) ≡ length (now numbers)) ⌝ }
+    ensures { λ r. ⌜ r ≡ N.judgeNumbers (N.isPast met (now (indexes .entry))) at (now (numbers .entry)) ⌝ }
+{
+    let field = at + 6;
+    let zero = first_zero(numbers);
+    if zero < numbers.len() {
+        return Judged::Bad(Fault::NoNumber, field + 2 * zero);
+    }
+    let unmet = first_unmet(met, indexes);
+    if unmet < numbers.len() {
+        return Judged::Bad(Fault::NotMet, field + 2 * unmet);
     }
     Judged::Fine
 }

@@ -3,18 +3,11 @@ ghost use mathlib.Core.Path.{_≡_};
 ghost use lib.ListN.{length};
 ghost use Rattle.scene_run.specs.Run.{sceneText};
 
-// Room for the longest text. Its `ensures` gives the length alone, so that no proof looks at so many zeros.
-fn room() -> [u8; 196989]
-    ensures { λ r. ⌜ 196989 ≡ length r ⌝ }
-{
-    [0; 196989]
-}
-
 // Prints the text of an input, and answers how long it is. No contract can say what a call of the C library wrote.
 pub fn print(input: &[u8]) -> usize
     ensures { λ r. ⌜ r ≡ length (sceneText (now (input .entry))) ⌝ }
 {
-    let mut out = room();
+    let mut out = scene_words::room();
     let n = scene_run::run(input, &mut out);
     output::print(&out[..n], b"scene: standard output could not be written\n");
     n

@@ -10,7 +10,7 @@ use borrow.Author.Tests.{ltb-false, eqb-true}
 use Rattle.scene_records.specs.declared.Fault.the-variants.{CutShort, UnknownKind}
 use Rattle.scene_records.specs.declared.Read.{Read}
 use Rattle.scene_records.specs.declared.Read.the-variants.{End, Bad}
-use Rattle.scene_records.specs.Records.{u16Of, u32Of, areaAt, placeAt, pairAt, kindAt, readAt, sizeOf}
+use Rattle.scene_records.specs.Records.{u16Of, u32Of, kindField, areaAt, placeAt, pairAt, kindAt, readAt, sizeOf}
 
 module _ (m at : ℕ) where
   either : (b : Bool) (x y : Read) → (b ≡ true → at + sizeOf x ≤ m) → (b ≡ false → at + sizeOf y ≤ m) → at + sizeOf (cond b x y) ≤ m
@@ -37,17 +37,17 @@ module _ (s : List ℕ) (at len : ℕ) (h : at + 6 + len ≤ length s) where
   unfolding kindAt
   kind-size =
       let k = u16Of s (at + 4) in
-      let r = cond (eqb k 3) (pairAt s at len) (Bad UnknownKind at) in
+      let r = cond (eqb k 3) (pairAt s at len) (Bad UnknownKind (kindField at)) in
       either (length s) at (eqb k 1) (areaAt s at len) (cond (eqb k 2) (placeAt s at len) r) (λ e. area-size)
       (λ e. either (length s) at (eqb k 2) (placeAt s at len) r (λ e′. place-size)
-      (λ e′. either (length s) at (eqb k 3) (pairAt s at len) (Bad UnknownKind at) (λ e″. pair-size) (λ e″. none)))
+      (λ e′. either (length s) at (eqb k 3) (pairAt s at len) (Bad UnknownKind (kindField at)) (λ e″. pair-size) (λ e″. none)))
 
 pub within : (s : List ℕ) (at : ℕ) → at ≤ length s → at + sizeOf (readAt s at) ≤ length s
 unfolding readAt
 within s at h =
     let none : at + 0 ≤ length s = omega arith in
     let k = kindAt s at (u32Of s at) in
-    let r = cond (ltb (length s) (at + 6 + u32Of s at)) (Bad CutShort at) k in
-    either (length s) at (leb (length s) at) End (cond (ltb (length s) (at + 6)) (Bad CutShort at) r) (λ e. none)
-    (λ e. either (length s) at (ltb (length s) (at + 6)) (Bad CutShort at) r (λ e′. none)
-    (λ e′. either (length s) at (ltb (length s) (at + 6 + u32Of s at)) (Bad CutShort at) k (λ e″. none) (λ e″. kind-size s at (u32Of s at) (ltb-false _ _ e″))))
+    let r = cond (ltb (length s) (at + 6 + u32Of s at)) (Bad CutShort (length s)) k in
+    either (length s) at (leb (length s) at) End (cond (ltb (length s) (at + 6)) (Bad CutShort (length s)) r) (λ e. none)
+    (λ e. either (length s) at (ltb (length s) (at + 6)) (Bad CutShort (length s)) r (λ e′. none)
+    (λ e′. either (length s) at (ltb (length s) (at + 6 + u32Of s at)) (Bad CutShort (length s)) k (λ e″. none) (λ e″. kind-size s at (u32Of s at) (ltb-false _ _ e″))))

@@ -1,10 +1,12 @@
-// The records of a scene, read out of its bytes: each is a u32 body length, a u16 kind and the body, all little-endian.
+// The records of a scene, read out of its bytes: each is a u32 body length, a u16 kind and the body, all little-endian. What a record is refused for, at
+// which of its fields, and which of its positions is refused first.
 ghost use mathlib.Core.Path.{_≡_};
-ghost use Prim.Native.Nat.{_+_, _≤_, _<_};
+ghost use Prim.Native.Nat.{_+_, _*_, _≤_, _<_};
 ghost use lib.ListN.{length};
+ghost use Rattle.judge.specs.Judge.{firstRefused};
 ghost use Rattle.scene_records.specs.Records as R;
 
-// What a record is refused for. The scene prints each as refusal 10.
+// What a record is refused for, in the order of the numbers 20 to 27.
 pub enum Fault {
     CutShort,
     UnknownKind,
@@ -16,7 +18,23 @@ pub enum Fault {
     ManyPositions,
 }
 
-// What stands at an offset: a record, with its area numbers and how many positions an area has; the end; or a fault and its offset.
+// The number of each fault.
+pub fn fault_number(f: Fault) -> u8
+    ensures { λ r. ⌜ r ≡ R.faultNumber f ⌝ }
+{
+    match f {
+        Fault::CutShort => 20,
+        Fault::UnknownKind => 21,
+        Fault::WrongLength => 22,
+        Fault::NoNumber => 23,
+        Fault::Repeated => 24,
+        Fault::NotMet => 25,
+        Fault::ManyAreas => 26,
+        Fault::ManyPositions => 27,
+    }
+}
+
+// What stands at an offset: a record, with its area numbers and how many positions an area has; the end; or a fault and its field's offset.
 pub enum Read {
     End,
     Bad(Fault, usize),
@@ -87,7 +105,7 @@ fn kind_at(s: &[u8], at: usize, len: usize) -> Read
     if kind == 3 {
         return pair_at(s, at, len);
     }
-    Read::Bad(Fault::UnknownKind, at)
+    Read::Bad(Fault::UnknownKind, at + 4)
 }
 
 pub fn read_at(s: &[u8], at: usize) -> Read
@@ -98,11 +116,31 @@ pub fn read_at(s: &[u8], at: usize) -> Read
         return Read::End;
     }
     if s.len() < at + 6 {
-        return Read::Bad(Fault::CutShort, at);
+        return Read::Bad(Fault::CutShort, s.len());
     }
     let len = length_at(s, at);
     if s.len() < at + 6 + len {
-        return Read::Bad(Fault::CutShort, at);
+        return Read::Bad(Fault::CutShort, s.len());
     }
     kind_at(s, at, len)
+}
+
+fn first_refused_of(s: &[u8], at: usize, list: &mut [f64], count: usize) -> usize
+    requires { ⌜ (length (now list) ≡ 3 * count) × (at + 24 * count ≤ length (now s)) ⌝ }
+    ensures { λ r. ⌜ r ≡ firstRefused (R.floatsAt (now (s .entry)) at count) count ⌝ }
+    ensures { λ r. ⌜ r ≤ count ⌝ }
+{
+    wire::read_floats(s, at, list);
+    judge::first_refused(list, count)
+}
+
+// The index of the first of `count` positions from an offset on that is refused, `count` where none is.
+pub fn first_refused(s: &[u8], at: usize, count: usize) -> usize
+    requires { ⌜ (count ≤ 1024) × (at + 24 * count ≤ length (now s)) ⌝ }
+    ensures { λ r. ⌜ r ≡ firstRefused (R.floatsAt (now (s .entry)) at count) count ⌝ }
+    ensures { λ r. ⌜ r ≤ count ⌝ }
+{
+    let size = 3 * count;
+    let mut list = [0.0f64; 3072];
+    first_refused_of(s, at, &mut list[..size], count)
 }

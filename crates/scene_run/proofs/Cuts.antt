@@ -5,16 +5,12 @@ use mathlib.Core.Path.{_≡_, refl, sym, ap, _∙_}
 use mathlib.Core.Bool.{Bool, true, false}
 use mathlib.Core.List.{List, [], _++_}
 use native.Mathlib.Omega.{arith}
-use lib.ListN.{length, take, drop, getD, length-replicate}
+use lib.ListN.{length, take, drop, length-replicate}
 use lib.Seq.{length-take-le, take-append-seam, drop-append-seam}
 use lib.Dec.{ltb}
-use lib.Ieee.{Float, nan, binary64}
-use lib.Ieee.Bits.{ofBits-fits}
+use lib.Ieee.{Float}
 use borrow.Author.Tests.{ltb-false, le-ltb}
-use Rattle.laws.specs.Loop.{firstOf, flat}
-use Rattle.laws.proofs.Blocks.{getD-flat}
-use Rattle.wire.specs.Wire.{u64Of, floatBlock}
-use Rattle.wire.specs.Wire as W
+use Rattle.laws.specs.Loop.{firstOf}
 use Rattle.angle.specs.Angles.{weak}
 use Rattle.ring_turns.specs.Turns.{turnSum}
 use Rattle.ring_corners.specs.Corners.{reversal, cornerAt, ringOf, classesOf, allBoth}
@@ -33,7 +29,7 @@ use Rattle.loop_triangles.proofs.Demand.{cut-is}
 use Rattle.scene_records.specs.Records.{floatsAt}
 use Rattle.scene_store.specs.declared.Area.{Area}
 use Rattle.scene_store.specs.Store.{corners, codes, builtAt, blank}
-use Rattle.scene_store.proofs.Counts.{floats-count}
+use Rattle.scene_run.proofs.Floats.{read-doubles}
 
 blank-size : length blank ≡ 1530
 unfolding blank
@@ -103,14 +99,6 @@ module _ (l : List Float) (d : Doubles l) (used : ℕ) (ps ns : List Float) (cs 
     of-list : loop h ≡ builtAt l used ps ns cs .answer → cutAs used ps cs h (buildOutcome l (drop (3 * used) ps) (drop (3 * used) ns) (drop used cs)) ≡ refused k → k ≡ 8
     unfolding builtAt buildOutcome
     of-list e z = of-refusal (refusal l (drop (3 * used) ps) (drop (3 * used) ns) (drop used cs)) refl e z
-
--- what is read from bytes are doubles
-read-doubles : (s : List ℕ) (at n : ℕ) → Doubles (floatsAt s at n)
-unfolding W.floatsAt
-read-doubles s at n i h =
-    let e : 1 * i + 0 ≡ i = omega arith in
-    let g = getD-flat nan 1 (floatBlock s at) (λ j. refl) (3 * n) 0 i 0 (omega (arith, floats-count s at n)) (omega arith) in
-    rw (ap (λ (j : ℕ). getD (flat (floatBlock s at) (3 * n) 0) j nan) (sym e) ∙ g) (ofBits-fits binary64 (u64Of s (at + 8 * (0 + i))))
 
 -- the area of a header that was built from a record's bytes into the rest of the store, cut as `triangleCount` cuts it
 abbrev pub areaAt : ℕ → ℕ → Header → Area

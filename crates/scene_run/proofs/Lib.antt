@@ -1,5 +1,6 @@
 pub mod Runs
 pub mod Unique
+pub mod Floats
 pub mod Cuts
 pub mod Refusals
 pub mod Numbers

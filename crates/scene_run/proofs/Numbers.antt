@@ -1,35 +1,38 @@
--- A line that a record comes to is none that ends a text, and its numbers have at most five digits; so has the number of a refusal. Assumes nothing.
+-- A line that a record comes to is none that ends a text, and its numbers have at most five digits; so have the numbers of a fault and of a refusal. Assumes nothing.
 use Prim.Native.Nat.{ℕ, zero, suc, _+_, _-_, _*_, _/_, _%_, _≤_, _<_}
 use mathlib.Core.Path.{_≡_, refl}
 use mathlib.Core.Bool.{Bool, true, false, cond}
-use mathlib.Core.List.{List, [], _∷_, _++_}
+use mathlib.Core.List.{List, [], _∷_}
 use native.Mathlib.Omega.{arith}
-use lib.ListN.{length, drop, getD, length-take}
+use lib.ListN.{length, getD, length-take}
 use lib.Dec.{ltb, leb, eqb}
 use lib.Ieee.{Float}
 use Rattle.wire.specs.Wire.{vecOf}
 use Rattle.loop_header.specs.declared.State.{State}
 use Rattle.loop_header.specs.declared.State.the-variants.{Empty, Full, Ring}
-use Rattle.loop_header.specs.declared.Header.{Header}
 use Rattle.loop_header.specs.Loops.{cutFault}
 use Rattle.loop_build.specs.Build as B
 use Rattle.loop_ask.specs.Answers.{Told, refused, answer}
 use Rattle.ring_cut.specs.Cut as C
 use Rattle.loop_triangles.specs.Triangles.{Outcome, outcome, roomy, fullOutcome, cutTold, laid, ringOutcome, stateOutcome, outcomeBy, triangulateOutcome}
 use Rattle.scene_lines.specs.declared.Line.{Line}
-use Rattle.scene_records.specs.declared.Fault.the-variants.{CutShort, UnknownKind, WrongLength, NotMet}
+use Rattle.scene_records.specs.declared.Fault.the-variants.{CutShort, UnknownKind, WrongLength, NoNumber, Repeated, ManyAreas, ManyPositions}
 use Rattle.scene_records.specs.declared.Read.{Read}
 use Rattle.scene_records.specs.declared.Read.the-variants as Read
-use Rattle.scene_records.specs.Records.{u16Of, u32Of, areaAt, placeAt, pairAt, kindAt, readAt}
+use Rattle.scene_records.specs.Records.{u16Of, u32Of, kindField, bodyField, areaAt, placeAt, pairAt, kindAt, readAt, floatsAt}
 use Rattle.scene_store.specs.declared.Area.{Area}
 use Rattle.scene_store.specs.Store.{corners, codes, blank, counted, triangleCount, placeIn, pairIn}
 use Rattle.scene_store.proofs.Counts.{built-count}
 use Rattle.scene_notes.specs.declared.Judged.{Judged}
 use Rattle.scene_notes.specs.declared.Judged.the-variants.{Fine, Bad}
 use Rattle.scene_notes.specs.Noted as N
-use Rattle.scene_notes.specs.Noted.{Scene, judgeArea}
+use Rattle.scene_notes.specs.Noted.{Scene, indexOf, judgeArea, isZero, firstZero, isUnmet, judgeNumbers, judgeNamed}
 use Rattle.scene_notes.proofs.Tables.{allowed}
-use Rattle.scene_steps.specs.Steps.{Step, ended, faulty, wrote, areaTold, areaOut, areaMade, areaBy, areaStep, isMet, met, placeTold, placeStep, pairTold, pairStep, stepBy, step, Good}
+use Rattle.judge.specs.Judge.{isRefused, firstRefused}
+use Rattle.laws.specs.Loop.{firstAt}
+use Rattle.laws.proofs.Loops.{firstAt-le}
+use Rattle.scene_steps.specs.Steps.{Step, ended, faulty, refusedAt, wrote, ofPositions, refusal, areaTold, areaOut, areaMade, areaBy, areaStep, met, Good}
+use Rattle.scene_steps.specs.Steps.{placeTold, placeMet, placeBy, placeStep, pairTold, pairMet, pairBy, pairStep, stepBy, step}
 use Rattle.scene_steps.specs.Steps as S
 use Rattle.scene_run.specs.Texts.{Each, isLast, numbersOf}
 use Rattle.scene_run.proofs.Refusals.{Few, place-few, pair-few, BuiltFew, built-few}
@@ -42,7 +45,7 @@ all-bytes (x ∷ s) h (suc i) = all-bytes s (λ j g. h (suc j) (omega (arith, g)
 
 abbrev ReadSmall : Read → Type 0
 ReadSmall Read.End = Unit {0}
-ReadSmall (Read.Bad f place) = Unit {0}
+ReadSmall (Read.Bad f field) = field < 100000
 ReadSmall (Read.Area number count) = number < 65536
 ReadSmall (Read.Place number) = number < 65536
 ReadSmall (Read.Pair number other) = (number < 65536) × (other < 65536)
@@ -51,37 +54,38 @@ either : (b : Bool) (x y : Read) → ReadSmall x → ReadSmall y → ReadSmall (
 either true x y f g = f
 either false x y f g = g
 
-module _ (s : List ℕ) (bytes : (i : ℕ) → i < length s → getD s i 0 < 256) (at : ℕ) where
+module _ (s : List ℕ) (bytes : (i : ℕ) → i < length s → getD s i 0 < 256) (at : ℕ) (small : length s ≤ 65536) (within : at ≤ length s) where
   two-bytes : (k : ℕ) → u16Of s k < 65536
   two-bytes k = omega (arith, all-bytes s bytes k, all-bytes s bytes (k + 1))
 
   area-read : (len : ℕ) → ReadSmall (areaAt s at len)
   unfolding areaAt
-  area-read len = either (eqb (len % 24) 2) (Read.Area (u16Of s (at + 6)) (len / 24)) (Read.Bad WrongLength at) (two-bytes (at + 6)) tt
+  area-read len = either (eqb (len % 24) 2) (Read.Area (u16Of s (at + 6)) (len / 24)) (Read.Bad WrongLength at) (two-bytes (at + 6)) (omega arith)
 
   place-read : (len : ℕ) → ReadSmall (placeAt s at len)
   unfolding placeAt
-  place-read len = either (eqb len 26) (Read.Place (u16Of s (at + 6))) (Read.Bad WrongLength at) (two-bytes (at + 6)) tt
+  place-read len = either (eqb len 26) (Read.Place (u16Of s (at + 6))) (Read.Bad WrongLength at) (two-bytes (at + 6)) (omega arith)
 
   pair-read : (len : ℕ) → ReadSmall (pairAt s at len)
   unfolding pairAt
-  pair-read len = either (eqb len 4) (Read.Pair (u16Of s (at + 6)) (u16Of s (at + 8))) (Read.Bad WrongLength at) (two-bytes (at + 6), two-bytes (at + 8)) tt
+  pair-read len = either (eqb len 4) (Read.Pair (u16Of s (at + 6)) (u16Of s (at + 8))) (Read.Bad WrongLength at) (two-bytes (at + 6), two-bytes (at + 8)) (omega arith)
 
   kind-read : (len : ℕ) → ReadSmall (kindAt s at len)
   unfolding kindAt
   kind-read len =
       let k = u16Of s (at + 4) in
-      let r = cond (eqb k 3) (pairAt s at len) (Read.Bad UnknownKind at) in
+      let r = cond (eqb k 3) (pairAt s at len) (Read.Bad UnknownKind (kindField at)) in
       either (eqb k 1) (areaAt s at len) (cond (eqb k 2) (placeAt s at len) r) (area-read len)
-      (either (eqb k 2) (placeAt s at len) r (place-read len) (either (eqb k 3) (pairAt s at len) (Read.Bad UnknownKind at) (pair-read len) tt))
+      (either (eqb k 2) (placeAt s at len) r (place-read len) (either (eqb k 3) (pairAt s at len) (Read.Bad UnknownKind (kindField at)) (pair-read len) (omega arith)))
 
   read-small : ReadSmall (readAt s at)
   unfolding readAt
   read-small =
       let k = kindAt s at (u32Of s at) in
-      let r = cond (ltb (length s) (at + 6 + u32Of s at)) (Read.Bad CutShort at) k in
-      either (leb (length s) at) Read.End (cond (ltb (length s) (at + 6)) (Read.Bad CutShort at) r) tt
-      (either (ltb (length s) (at + 6)) (Read.Bad CutShort at) r tt (either (ltb (length s) (at + 6 + u32Of s at)) (Read.Bad CutShort at) k tt (kind-read (u32Of s at))))
+      let r = cond (ltb (length s) (at + 6 + u32Of s at)) (Read.Bad CutShort (length s)) k in
+      either (leb (length s) at) Read.End (cond (ltb (length s) (at + 6)) (Read.Bad CutShort (length s)) r) tt
+      (either (ltb (length s) (at + 6)) (Read.Bad CutShort (length s)) r (omega arith)
+      (either (ltb (length s) (at + 6 + u32Of s at)) (Read.Bad CutShort (length s)) k (omega arith) (kind-read (u32Of s at))))
 
 -- ---- triangles: no more than corners, or 20
 module _ (m : ℕ) where
@@ -128,52 +132,104 @@ pub record Small (line : Line) : Type 0 where
 
 abbrev pub StepSmall : Step → Type 0
 StepSmall ended = Unit {0}
-StepSmall (faulty f) = Unit {0}
+StepSmall (faulty f field) = field < 100000
 StepSmall (S.refused k) = k ≤ 9
+StepSmall (refusedAt k index) = (k ≤ 9) × (index ≤ 1024)
 StepSmall (wrote line next) = Small line
 
-place-small : (w : Scene) (number : ℕ) → number < 65536 → (t : Told) → Few t → StepSmall (placeTold w number t)
-place-small w number h (refused k) f = f
-place-small w number h (answer n) f = record { not-last = refl; numbers = (omega arith, tt) }
+-- a call's own refusal, with the index of a position where it has one
+refusal-by : (b : Bool) (k index : ℕ) → k ≤ 9 → index ≤ 1024 → StepSmall (cond b (refusedAt k index) (S.refused k))
+refusal-by true k index h g = (h, g)
+refusal-by false k index h g = h
+
+index-small : (s : List ℕ) (at count : ℕ) → count ≤ 1024 → firstRefused (floatsAt s at count) count ≤ 1024
+unfolding firstRefused
+index-small s at count h = omega (arith, firstAt-le (isRefused (floatsAt s at count)) count 0)
+
+refusal-small : (s : List ℕ) (at count k : ℕ) → count ≤ 1024 → k ≤ 9 → StepSmall (refusal k (firstRefused (floatsAt s at count) count))
+unfolding refusal
+refusal-small s at count k h g = refusal-by (ofPositions k) k _ g (index-small s at count h)
+
+place-small : (s : List ℕ) (w : Scene) (number : ℕ) → number < 65536 → (t : Told) → Few t → StepSmall (placeTold s w number t)
+place-small s w number h (refused k) f = refusal-small s (w .at + 8) 1 k (omega arith) f
+place-small s w number h (answer n) f = record { not-last = refl; numbers = (omega arith, tt) }
 
 pair-small : (w : Scene) (number other : ℕ) → (number < 65536) × (other < 65536) → (t : Told) → Few t → StepSmall (pairTold w number other t)
 pair-small w number other h (refused k) f = f
 pair-small w number other h (answer n) f = record { not-last = refl; numbers = (omega (arith, h .0), (omega (arith, h .1), tt)) }
 
-met-small : (b : Bool) (x : Step) → StepSmall x → StepSmall (cond b x (faulty NotMet))
-met-small true x f = f
-met-small false x f = tt
+-- ---- what a record is judged for
+abbrev JudgedSmall : Judged → Type 0
+JudgedSmall Fine = Unit {0}
+JudgedSmall (Bad f field) = field < 100000
+
+judged-either : (b : Bool) (x y : Judged) → JudgedSmall x → JudgedSmall y → JudgedSmall (cond b x y)
+judged-either true x y f g = f
+judged-either false x y f g = g
+
+module _ (w : Scene) (h : w .at ≤ 65536) where
+  area-judged : (number count : ℕ) → JudgedSmall (judgeArea (w .areas) (w .given) (w .at) number count)
+  unfolding judgeArea
+  area-judged number count =
+      let field = bodyField (w .at) in
+      let many = cond (ltb 1024 (w .given + count)) (Bad ManyPositions (w .at)) Fine in
+      let areas = cond (leb 16 (length (w .areas))) (Bad ManyAreas field) many in
+      let repeated = cond (ltb (indexOf (w .areas) number) (length (w .areas))) (Bad Repeated field) areas in
+      judged-either (eqb number 0) (Bad NoNumber field) repeated (omega arith)
+      (judged-either (ltb (indexOf (w .areas) number) (length (w .areas))) (Bad Repeated field) areas (omega arith)
+      (judged-either (leb 16 (length (w .areas))) (Bad ManyAreas field) many (omega arith)
+      (judged-either (ltb 1024 (w .given + count)) (Bad ManyPositions (w .at)) Fine (omega arith) tt)))
+
+  numbers-judged : (numbers : List ℕ) → length numbers ≤ 2 → JudgedSmall (judgeNamed (w .areas) (w .at) numbers)
+  unfolding judgeNumbers firstZero
+  numbers-judged numbers g =
+      let zeros = firstAt (isZero numbers) (length numbers) 0 in
+      let unmets = firstAt (isUnmet (w .areas) numbers) (length numbers) 0 in
+      judged-either (ltb zeros (length numbers)) _ _ (omega (arith, firstAt-le (isZero numbers) (length numbers) 0))
+      (judged-either (ltb unmets (length numbers)) _ Fine (omega (arith, firstAt-le (isUnmet (w .areas) numbers) (length numbers) 0)) tt)
 
 module _ (s : List ℕ) (w : Scene) where
-  area-small : (number count : ℕ) → number < 65536 → Fine ≡ judgeArea (w .areas) (w .given) number count → (t : B.Told) → t ≡ areaOut s w count .answer → BuiltFew t
-      → StepSmall (areaTold w number count (areaOut s w count) t)
-  area-small number count h g (B.refused k) q f = f
+  area-small : (number count : ℕ) → number < 65536 → Fine ≡ judgeArea (w .areas) (w .given) (w .at) number count → (t : B.Told) → t ≡ areaOut s w count .answer → BuiltFew t
+      → StepSmall (areaTold s w number count (areaOut s w count) t)
+  area-small number count h g (B.refused k) q f =
+      let m = allowed (w .areas) (w .given) (w .at) number count g .few in
+      refusal-small s (w .at + 8) count k (omega (arith, m)) f
   area-small number count h g (B.loop k) q f =
       let c : k .count ≤ count = built-count s (w .at + 8) count (w .used) (w .positions) (w .normals) (w .classes) q in
-      let m = allowed (w .areas) (w .given) number count g .few in
+      let m = allowed (w .areas) (w .given) (w .at) number count g .few in
       let o = areaOut s w count in
       let d = triangles-few (N.areaAt (w .used) number k) (o .positions) (o .classes) in
       record { not-last = refl; numbers = (omega arith, (omega (arith, c, m), (omega (arith, c, m, d), tt))) }
 
-  judged-small : (number count : ℕ) → number < 65536 → (j : Judged) → j ≡ judgeArea (w .areas) (w .given) number count → StepSmall (areaBy j s w number count)
+  judged-small : (number count : ℕ) → number < 65536 → (j : Judged) → j ≡ judgeArea (w .areas) (w .given) (w .at) number count → JudgedSmall j → StepSmall (areaBy j s w number count)
   unfolding areaMade
-  judged-small number count h (Bad f) q = tt
-  judged-small number count h Fine q =
+  judged-small number count h (Bad f field) q z = z
+  judged-small number count h Fine q z =
       area-small number count h q (areaOut s w count .answer) refl (built-few _ (w .used) (w .positions) (w .normals) (w .classes))
 
-  by-read : (r : Read) → ReadSmall r → StepSmall (stepBy r s w)
-  unfolding areaStep placeStep pairStep
-  by-read Read.End h = tt
-  by-read (Read.Bad f place) h = tt
-  by-read (Read.Area number count) h = judged-small number count h (judgeArea (w .areas) (w .given) number count) refl
-  by-read (Read.Place number) h =
-      let t = placeIn (met w number) (w .positions) (w .normals) (w .classes) (vecOf s (w .at + 8)) in
-      met-small (isMet w number) (placeTold w number t) (place-small w number h t (place-few (met w number) (w .positions) (w .normals) (w .classes) (vecOf s (w .at + 8))))
-  by-read (Read.Pair number other) h =
-      let t = pairIn (met w number) (met w other) (w .positions) (w .normals) (w .classes) in
-      let f = pair-small w number other h t (pair-few (met w number) (met w other) (w .positions) (w .normals) (w .classes)) in
-      met-small (isMet w number) (cond (isMet w other) (pairTold w number other t) (faulty NotMet)) (met-small (isMet w other) (pairTold w number other t) f)
+  place-by : (number : ℕ) → number < 65536 → (j : Judged) → JudgedSmall j → StepSmall (placeBy j s w number)
+  unfolding placeMet
+  place-by number h (Bad f field) z = z
+  place-by number h Fine z =
+      let p = vecOf s (w .at + 8) in
+      place-small s w number h (placeIn (met w number) (w .positions) (w .normals) (w .classes) p) (place-few (met w number) (w .positions) (w .normals) (w .classes) p)
 
-  pub step-small : ((i : ℕ) → i < length s → getD s i 0 < 256) → StepSmall (step s w)
+  pair-by : (number other : ℕ) → (number < 65536) × (other < 65536) → (j : Judged) → JudgedSmall j → StepSmall (pairBy j w number other)
+  unfolding pairMet
+  pair-by number other h (Bad f field) z = z
+  pair-by number other h Fine z =
+      let t = pairIn (met w number) (met w other) (w .positions) (w .normals) (w .classes) in
+      pair-small w number other h t (pair-few (met w number) (met w other) (w .positions) (w .normals) (w .classes))
+
+  module _ (g : w .at ≤ 65536) where
+    by-read : (r : Read) → ReadSmall r → StepSmall (stepBy r s w)
+    unfolding areaStep placeStep pairStep
+    by-read Read.End h = tt
+    by-read (Read.Bad f field) h = h
+    by-read (Read.Area number count) h = judged-small number count h (judgeArea (w .areas) (w .given) (w .at) number count) refl (area-judged w g number count)
+    by-read (Read.Place number) h = place-by number h (judgeNamed (w .areas) (w .at) (number ∷ [])) (numbers-judged w g (number ∷ []) (omega arith))
+    by-read (Read.Pair number other) h = pair-by number other h (judgeNamed (w .areas) (w .at) (number ∷ other ∷ [])) (numbers-judged w g (number ∷ other ∷ []) (omega arith))
+
+  pub step-small : ((i : ℕ) → i < length s → getD s i 0 < 256) → Good s w → StepSmall (step s w)
   unfolding step
-  step-small bytes = by-read (readAt s (w .at)) (read-small s bytes (w .at))
+  step-small bytes g = by-read (omega (arith, g .within, g .small)) (readAt s (w .at)) (read-small s bytes (w .at) (g .small) (g .within))

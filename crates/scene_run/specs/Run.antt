@@ -1,35 +1,61 @@
--- What the scene program writes: ONE function from the input's bytes to the output's (SCOPE 28 to 30). Definitions only.
+-- What the scene program writes: ONE function from the input's bytes to the output's (SCOPE 28 to 30, 46). Definitions only.
 use Prim.Native.Nat.{ℕ, zero, suc, _+_, _≤_}
 use mathlib.Core.Bool.{Bool, true, false, cond}
-use mathlib.Core.List.{List, [], _++_}
+use mathlib.Core.List.{List, [], _∷_, _++_}
 use lib.ListN.{length, replicate}
 use lib.Dec.{ltb}
 use lib.Ieee.{Float}
 use Rattle.numbers.specs.F64 as F
 use Rattle.scene_lines.specs.declared.Line.{Line}
 use Rattle.scene_lines.specs.declared.Line.the-variants as Line
-use Rattle.scene_lines.specs.Lines.{lineText, endLine, refusedLine}
+use Rattle.scene_lines.specs.Lines.{lineText}
 use Rattle.scene_records.specs.declared.Fault.{Fault}
+use Rattle.scene_records.specs.Records.{bodyField, faultNumber}
 use Rattle.scene_steps.specs.declared.Report.{Report}
 use Rattle.scene_steps.specs.declared.Report.the-variants as Report
 use Rattle.scene_notes.specs.Noted.{Scene}
-use Rattle.scene_steps.specs.Steps.{Step, step, Sized, ended, faulty, refused, wrote}
+use Rattle.scene_steps.specs.Steps.{Step, step, Sized, wrote}
+use Rattle.scene_steps.specs.Steps as S
 
--- ---- the text. SCOPE 29: refusal 10, whatever the fault is
-abbrev pub faultNumber : Fault → ℕ
-faultNumber f = 10
+-- ---- how a scene ends: whole, after so many records; too long; or at the record of an offset, for its fault at a field's offset, or by a call's own refusal, of
+-- a list of positions with the index of one
+pub data Ending : Type 0 where
+  whole : ℕ → Ending
+  tooLong : Ending
+  faulty : ℕ → Fault → ℕ → Ending
+  refused : ℕ → ℕ → Ending
+  refusedAt : ℕ → ℕ → ℕ → Ending
 
--- SCOPE 30: the last line is `end` or `refused`, and nothing comes after it
-abbrev pub textBy : Step → Scene → (Scene → List ℕ) → List ℕ
-textBy ended w rest = endLine (w .records)
-textBy (faulty f) w rest = refusedLine (faultNumber f) (w .at)
-textBy (refused k) w rest = refusedLine k (w .at)
-textBy (wrote line next) w rest = lineText line ++ rest next
+-- SCOPE 30, 46: the last line is `end` or `refused`. The field of a scene that is too long is 65,536, of a call's own refusal the start of the body
+abbrev pub lastLine : Ending → Line
+lastLine (whole records) = Line.End records
+lastLine tooLong = Line.Refused 28 0 65536
+lastLine (faulty at f field) = Line.Refused (faultNumber f) at field
+lastLine (refused at k) = Line.Refused k at (bodyField at)
+lastLine (refusedAt at k index) = Line.RefusedAt k at (bodyField at) index
 
--- the lines from a scene on, of at most k records
-unfoldable pub linesFrom : List ℕ → ℕ → Scene → List ℕ
-linesFrom s zero w = []
-linesFrom s (suc k) w = textBy (step s w) w (linesFrom s k)
+-- ---- what a scene comes to: the lines of its records, and how it ends
+pub record Told : Type 0 where
+  pub lines : List Line
+  pub ending : Ending
+
+abbrev pub ends : Ending → Told
+ends e = record { lines = []; ending = e }
+
+abbrev pub goes : Line → Told → Told
+goes line t = record { lines = line ∷ t .lines; ending = t .ending }
+
+abbrev pub toldBy : Step → Scene → (Scene → Told) → Told
+toldBy S.ended w rest = ends (whole (w .records))
+toldBy (S.faulty f field) w rest = ends (faulty (w .at) f field)
+toldBy (S.refused k) w rest = ends (refused (w .at) k)
+toldBy (S.refusedAt k index) w rest = ends (refusedAt (w .at) k index)
+toldBy (wrote line next) w rest = goes line (rest next)
+
+-- from a scene on, of at most k records
+unfoldable pub toldFrom : List ℕ → ℕ → Scene → Told
+toldFrom s zero w = ends (whole (w .records))
+toldFrom s (suc k) w = toldBy (step s w) w (toldFrom s k)
 
 -- before the first record: a store of 1,024 corners
 unfoldable pub blankFloats : List Float
@@ -41,25 +67,38 @@ blankCodes = replicate 1024 0
 abbrev pub starting : List Float → List Float → List ℕ → Scene
 starting ps ns cs = record { at = 0; records = 0; areas = []; given = 0; used = 0; positions = ps; normals = ns; classes = cs }
 
--- all lines: no input has more records than bytes
-abbrev pub linesOf : List ℕ → List Float → List Float → List ℕ → List ℕ
-linesOf s ps ns cs = linesFrom s (length s + 1) (starting ps ns cs)
+-- all records: no input has more of them than bytes
+abbrev pub toldOf : List ℕ → List Float → List Float → List ℕ → Told
+toldOf s ps ns cs = toldFrom s (length s + 1) (starting ps ns cs)
 
--- SCOPE 29: too many bytes is judged first, at offset 0, with no line before it
+-- SCOPE 46: too many bytes is judged first, with no line before it
+unfoldable pub sceneTold : List ℕ → Told
+sceneTold s = cond (ltb 65536 (length s)) (ends tooLong) (toldOf s blankFloats blankFloats blankCodes)
+
+-- ---- the text: the lines one after the other, and the last one, after which nothing comes
+unfoldable pub textOf : List Line → List ℕ
+textOf [] = []
+textOf (line ∷ rest) = lineText line ++ textOf rest
+
+abbrev pub toldText : Told → List ℕ
+toldText t = textOf (t .lines) ++ lineText (lastLine (t .ending))
+
 unfoldable pub sceneText : List ℕ → List ℕ
-sceneText s = cond (ltb 65536 (length s)) (refusedLine 10 0) (linesOf s blankFloats blankFloats blankCodes)
+sceneText s = toldText (sceneTold s)
 
 -- the line that a report prints, and whether the scene goes on after it
 abbrev pub lineOf : Report → ℕ → ℕ → Line
 lineOf Report.End records at = Line.End records
-lineOf (Report.Bad f) records at = Line.Refused (faultNumber f) at
-lineOf (Report.Refused k) records at = Line.Refused k at
+lineOf (Report.Bad f field) records at = Line.Refused (faultNumber f) at field
+lineOf (Report.Refused k) records at = Line.Refused k at (bodyField at)
+lineOf (Report.RefusedAt k index) records at = Line.RefusedAt k at (bodyField at) index
 lineOf (Report.Line line) records at = line
 
 abbrev pub goesOn : Report → Bool
 goesOn Report.End = false
-goesOn (Report.Bad f) = false
+goesOn (Report.Bad f field) = false
 goesOn (Report.Refused k) = false
+goesOn (Report.RefusedAt k index) = false
 goesOn (Report.Line line) = true
 
 -- room for the longest text: three bytes for each byte read, 21 more for each of 16 areas, and the last line

@@ -8,9 +8,9 @@ use lib.ListN.{length, getD}
 use Rattle.scene_words.specs.Words.{decimal}
 use Rattle.scene_words.specs.Decimals.{Right}
 use Rattle.scene_lines.specs.declared.Line.{Line}
-use Rattle.scene_lines.specs.declared.Line.the-variants.{Area, Place, Pair, End, Refused}
+use Rattle.scene_lines.specs.declared.Line.the-variants.{Area, Place, Pair, End, Refused, RefusedAt}
 use Rattle.scene_lines.specs.Lines.{lineText}
-use Rattle.scene_run.specs.Run.{sceneText}
+use Rattle.scene_run.specs.Run.{textOf, sceneText}
 
 -- something holds of each entry of a list
 abbrev pub Each : {A : Type 0} → (A → Type 0) → List A → Type 0
@@ -23,7 +23,8 @@ isLast (Area number h triangles) = false
 isLast (Place number answer) = false
 isLast (Pair first second relation) = false
 isLast (End records) = true
-isLast (Refused number offset) = true
+isLast (Refused number offset field) = true
+isLast (RefusedAt number offset field index) = true
 
 -- the numbers that a line prints in decimal, as they come in it
 abbrev pub numbersOf : Line → List ℕ
@@ -31,16 +32,12 @@ numbersOf (Area number h triangles) = number ∷ h .count ∷ triangles ∷ []
 numbersOf (Place number answer) = number ∷ []
 numbersOf (Pair first second relation) = first ∷ second ∷ []
 numbersOf (End records) = records ∷ []
-numbersOf (Refused number offset) = number ∷ offset ∷ []
+numbersOf (Refused number offset field) = number ∷ offset ∷ field ∷ []
+numbersOf (RefusedAt number offset field index) = number ∷ offset ∷ field ∷ index ∷ []
 
 -- each of them is what its digits say
 abbrev pub Printed : Line → Type 0
 Printed line = Each (λ (n : ℕ). Right n (decimal n)) (numbersOf line)
-
--- lines one after the other
-unfoldable pub textOf : List Line → List ℕ
-textOf [] = []
-textOf (line ∷ rest) = lineText line ++ textOf rest
 
 -- the text is these lines and a last one, after which nothing comes; an `end` counts them, one line for each record
 pub record Lined (text : List ℕ) : Type 0 where

@@ -7,14 +7,16 @@ ghost use Rattle.scene_run.specs.Run as Sc;
 use scene_lines::Line;
 use scene_steps::Report;
 
-// The line of a report. Each fault is refusal 10 today.
+// The line of a report.
 fn line_of(report: Report, records: usize, at: usize) -> Line
+    requires { ⌜ at ≤ 65536 ⌝ }
     ensures { λ r. ⌜ r ≡ Sc.lineOf report records at ⌝ }
 {
     match report {
         Report::End => Line::End(records),
-        Report::Bad(_) => Line::Refused(10, at),
-        Report::Refused(k) => Line::Refused(k, at),
+        Report::Bad(f, field) => Line::Refused(scene_records::fault_number(f), at, field),
+        Report::Refused(k) => Line::Refused(k, at, at + 6),
+        Report::RefusedAt(k, index) => Line::RefusedAt(k, at, at + 6, index),
         Report::Line(line) => line,
     }
 }
@@ -24,8 +26,9 @@ fn goes_on(report: Report) -> bool
 {
     match report {
         Report::End => false,
-        Report::Bad(_) => false,
+        Report::Bad(_, _) => false,
         Report::Refused(_) => false,
+        Report::RefusedAt(_, _) => false,
         Report::Line(_) => true,
     }
 }
@@ -39,7 +42,7 @@ fn run_in(
     out: &mut [u8],
 ) -> usize
     requires { ⌜ Sc.Running (now s) (length (now positions)) (length (now normals)) (length (now classes)) (length (now out)) ⌝ }
-    ensures { λ r. ⌜ Wrote (now (out .entry)) 0 (Sc.linesOf (now (s .entry)) (now (positions .entry)) (now (normals .entry)) (now (classes .entry))) (now (out .exit)) r ⌝ }
+    ensures { λ r. ⌜ Wrote (now (out .entry)) 0 (Sc.toldText (Sc.toldOf (now (s .entry)) (now (positions .entry)) (now (normals .entry)) (now (classes .entry)))) (now (out .exit)) r ⌝ }
     ensures { λ r. ⌜ r ≤ 196989 ⌝ }
 {
     let mut c = scene_notes::fresh();
@@ -56,14 +59,14 @@ fn run_in(
 }
 
 // What the scene program prints for an input, written to `out`; answers how many bytes that is. 196,989 bytes are room for any scene:
-// a line has at most three bytes for each byte of its record, an area's 21 more, of which there are 16; the last line has at most 45.
+// a line has at most three bytes for each byte of its record, an area's 21 more, of which there are 16; the last line has at most 35, and 45 are kept for it.
 pub fn run(s: &[u8], out: &mut [u8]) -> usize
     requires { ⌜ 196989 ≤ length (now out) ⌝ }
     ensures { λ r. ⌜ Wrote (now (out .entry)) 0 (Sc.sceneText (now (s .entry))) (now (out .exit)) r ⌝ }
     ensures { λ r. ⌜ r ≤ 196989 ⌝ }
 {
     if 65536 < s.len() {
-        return scene_lines::put_line(out, 0, Line::Refused(10, 0));
+        return scene_lines::put_line(out, 0, Line::Refused(28, 0, 65536));
     }
     let mut positions = [0.0f64; 3072];
     let mut normals = [0.0f64; 3072];

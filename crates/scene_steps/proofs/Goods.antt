@@ -15,7 +15,6 @@ use Rattle.loop_ask.specs.Answers as Ask
 use Rattle.scene_lines.specs.declared.Line.{Line}
 use Rattle.scene_lines.specs.declared.Line.the-variants as Line
 use Rattle.scene_lines.specs.Lines.{roomOf}
-use Rattle.scene_records.specs.declared.Fault.the-variants.{NotMet}
 use Rattle.scene_records.specs.declared.Read.{Read}
 use Rattle.scene_records.specs.declared.Read.the-variants as Read
 use Rattle.scene_records.specs.Records.{readAt, sizeOf}
@@ -23,9 +22,10 @@ use Rattle.scene_records.proofs.Sizes.{within}
 use Rattle.scene_store.specs.declared.Area.{Area}
 use Rattle.scene_notes.specs.declared.Judged.{Judged}
 use Rattle.scene_notes.specs.declared.Judged.the-variants.{Fine, Bad}
-use Rattle.scene_notes.specs.Noted.{Scene, areaAt, judgeArea}
+use Rattle.scene_notes.specs.Noted.{Scene, areaAt, judgeArea, judgeNamed}
 use Rattle.scene_store.specs.Store.{nobody, triangleCount, placeIn, pairIn}
-use Rattle.scene_steps.specs.Steps.{Step, faulty, wrote, passedBy, withArea, areaTold, areaOut, areaMade, areaBy, areaStep, isMet, met, placeTold, placeStep, pairTold, pairStep, stepBy, step, Good}
+use Rattle.scene_steps.specs.Steps.{refused, refusedAt, wrote, ofPositions, refusal, passedBy, withArea, areaTold, areaOut, areaMade, areaBy, areaStep, met, Good}
+use Rattle.scene_steps.specs.Steps.{placeTold, placeMet, placeBy, placeStep, pairTold, pairMet, pairBy, pairStep, stepBy, step}
 use Rattle.scene_store.proofs.Counts.{built-count}
 use Rattle.scene_notes.proofs.Tables.{allowed}
 
@@ -49,6 +49,16 @@ module _ (areas : List Area) (a : Area) (used more : ℕ) (old : (i : ℕ) → i
       (λ g. rw (List·getD-append areas (a ∷ []) nobody i g) (omega (arith, old i g)))
       (eq-or-lt-of-le k)
 
+-- a refusal is no line
+module _ {l : Line} {v : Scene} where
+  refusal-line : (b : Bool) (k index : ℕ) → cond b (refusedAt k index) (refused k) ≡ wrote l v → ⊥
+  refusal-line true k index e = let z : _≡_ {A = ℕ} 0 1 = cc in omega arith
+  refusal-line false k index e = let z : _≡_ {A = ℕ} 0 1 = cc in omega arith
+
+  pub no-line : (k index : ℕ) → refusal k index ≡ wrote l v → ⊥
+  unfolding refusal
+  no-line k index e = refusal-line (ofPositions k) k index e
+
 module _ {s : List ℕ} {w : Scene} (g : Good s w) where
   passed-on : {l : Line} {v : Scene} (size : ℕ) → 8 ≤ size → roomOf l ≤ 3 * size → w .at + size ≤ length s → passedBy size w ≡ v → Onward s l w v
   passed-on size h f k e = rw (← e) record {
@@ -67,9 +77,9 @@ module _ {s : List ℕ} {w : Scene} (g : Good s w) where
   }
 
   module _ {l : Line} {v : Scene} where
-    place-on : (t : Told) (number : ℕ) → w .at + 32 ≤ length s → placeTold w number t ≡ wrote l v → Onward s l w v
+    place-on : (t : Told) (number : ℕ) → w .at + 32 ≤ length s → placeTold s w number t ≡ wrote l v → Onward s l w v
     unfolding roomOf
-    place-on (Ask.refused k) number h e = absurd (let z : _≡_ {A = ℕ} 0 1 = cc in omega arith)
+    place-on (Ask.refused k) number h e = absurd (no-line k _ e)
     place-on (Ask.answer n) number h e = passed-on 32 (omega arith) (let q : Line.Place number n ≡ l = cc in rw (← q) (omega arith)) h (cc)
 
     pair-on : (t : Told) (number other : ℕ) → w .at + 10 ≤ length s → pairTold w number other t ≡ wrote l v → Onward s l w v
@@ -77,13 +87,13 @@ module _ {s : List ℕ} {w : Scene} (g : Good s w) where
     pair-on (Ask.refused k) number other h e = absurd (let z : _≡_ {A = ℕ} 0 1 = cc in omega arith)
     pair-on (Ask.answer n) number other h e = passed-on 10 (omega arith) (let q : Line.Pair number other n ≡ l = cc in rw (← q) (omega arith)) h (cc)
 
-    area-on : (number count : ℕ) → Fine ≡ judgeArea (w .areas) (w .given) number count → w .at + (8 + 24 * count) ≤ length s
-        → (t : B.Told) → t ≡ areaOut s w count .answer → areaTold w number count (areaOut s w count) t ≡ wrote l v → Onward s l w v
+    area-on : (number count : ℕ) → Fine ≡ judgeArea (w .areas) (w .given) (w .at) number count → w .at + (8 + 24 * count) ≤ length s
+        → (t : B.Told) → t ≡ areaOut s w count .answer → areaTold s w number count (areaOut s w count) t ≡ wrote l v → Onward s l w v
     unfolding roomOf
-    area-on number count f h (B.refused k) q e = absurd (let z : _≡_ {A = ℕ} 0 1 = cc in omega arith)
+    area-on number count f h (B.refused k) q e = absurd (no-line k _ e)
     area-on number count f h (B.loop k) q e =
         let a = areaAt (w .used) number k in
-        let m = allowed (w .areas) (w .given) number count f in
+        let m = allowed (w .areas) (w .given) (w .at) number count f in
         let c : k .count ≤ count = built-count s (w .at + 8) count (w .used) (w .positions) (w .normals) (w .classes) q in
         let d : withArea w a count (areaOut s w count) ≡ v = cc in
         let q : Line.Area number k (triangleCount a (areaOut s w count .positions) (areaOut s w count .classes)) ≡ l = cc in
@@ -102,23 +112,28 @@ module _ {s : List ℕ} {w : Scene} (g : Good s w) where
           one-more = refl;
         }
 
-    judged-on : (number count : ℕ) → w .at + (8 + 24 * count) ≤ length s → (j : Judged) → j ≡ judgeArea (w .areas) (w .given) number count → areaBy j s w number count ≡ wrote l v → Onward s l w v
+    judged-on : (number count : ℕ) → w .at + (8 + 24 * count) ≤ length s → (j : Judged) → j ≡ judgeArea (w .areas) (w .given) (w .at) number count → areaBy j s w number count ≡ wrote l v → Onward s l w v
     unfolding areaMade
-    judged-on number count h (Bad f) q e = absurd (let z : _≡_ {A = ℕ} 0 1 = cc in omega arith)
+    judged-on number count h (Bad f field) q e = absurd (let z : _≡_ {A = ℕ} 0 1 = cc in omega arith)
     judged-on number count h Fine q e = area-on number count q h (areaOut s w count .answer) refl e
 
-    -- a choice that came to a line
-    either : (b : Bool) (x : Step) → cond b x (faulty NotMet) ≡ wrote l v → x ≡ wrote l v
-    either true x e = e
-    either false x e = absurd (let z : _≡_ {A = ℕ} 0 1 = cc in omega arith)
+    place-judged : (number : ℕ) → w .at + 32 ≤ length s → (j : Judged) → placeBy j s w number ≡ wrote l v → Onward s l w v
+    unfolding placeMet
+    place-judged number h (Bad f field) e = absurd (let z : _≡_ {A = ℕ} 0 1 = cc in omega arith)
+    place-judged number h Fine e = place-on (placeIn (met w number) (w .positions) (w .normals) (w .classes) (vecOf s (w .at + 8))) number h e
+
+    pair-judged : (number other : ℕ) → w .at + 10 ≤ length s → (j : Judged) → pairBy j w number other ≡ wrote l v → Onward s l w v
+    unfolding pairMet
+    pair-judged number other h (Bad f field) e = absurd (let z : _≡_ {A = ℕ} 0 1 = cc in omega arith)
+    pair-judged number other h Fine e = pair-on (pairIn (met w number) (met w other) (w .positions) (w .normals) (w .classes)) number other h e
 
     by-read : (r : Read) → w .at + sizeOf r ≤ length s → stepBy r s w ≡ wrote l v → Onward s l w v
     unfolding areaStep placeStep pairStep
     by-read Read.End h e = absurd (let z : _≡_ {A = ℕ} 0 1 = cc in omega arith)
-    by-read (Read.Bad f room) h e = absurd (let z : _≡_ {A = ℕ} 0 1 = cc in omega arith)
-    by-read (Read.Area number count) h e = judged-on number count h (judgeArea (w .areas) (w .given) number count) refl e
-    by-read (Read.Place number) h e = place-on (placeIn (met w number) (w .positions) (w .normals) (w .classes) (vecOf s (w .at + 8))) number h (either (isMet w number) _ e)
-    by-read (Read.Pair number other) h e = pair-on (pairIn (met w number) (met w other) (w .positions) (w .normals) (w .classes)) number other h (either (isMet w other) _ (either (isMet w number) _ e))
+    by-read (Read.Bad f field) h e = absurd (let z : _≡_ {A = ℕ} 0 1 = cc in omega arith)
+    by-read (Read.Area number count) h e = judged-on number count h (judgeArea (w .areas) (w .given) (w .at) number count) refl e
+    by-read (Read.Place number) h e = place-judged number h (judgeNamed (w .areas) (w .at) (number ∷ [])) e
+    by-read (Read.Pair number other) h e = pair-judged number other h (judgeNamed (w .areas) (w .at) (number ∷ other ∷ [])) e
 
     pub onward : step s w ≡ wrote l v → Onward s l w v
     unfolding step

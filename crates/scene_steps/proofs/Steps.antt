@@ -1,15 +1,14 @@
 -- A record's step, as the program takes it. Assumes nothing.
 use Prim.Native.Nat.{ℕ, zero, suc, _+_, _*_, _≤_, _<_}
 use mathlib.Core.Path.{_≡_, refl, sym, ap, _∙_}
-use mathlib.Core.Bool.{Bool, true, false}
+use mathlib.Core.Bool.{Bool, true, false, cond}
 use mathlib.Core.List.{List, [], _∷_, _++_, append-assoc}
 use native.Mathlib.Numerals.{add-one}
 use native.Mathlib.Omega.{arith}
-use lib.ListN.{length, take, drop, getD, length-append, take-append-drop}
+use lib.ListN.{length, drop, getD, length-append, take-append-drop}
 use lib.Seq.{set-split}
 use lib.Dec.{ltb}
 use lib.Ieee.{Float}
-use borrow.Author.Tests.{lt-ltb, le-ltb}
 use Rattle.vec3.specs.declared.Vec3.{Vec3}
 use Rattle.wire.specs.Wire.{vecOf}
 use Rattle.loop_header.specs.declared.Header.{Header}
@@ -20,7 +19,6 @@ use Rattle.loop_ask.specs.Answers.{Told}
 use Rattle.loop_ask.specs.Answers as Ask
 use Rattle.scene_lines.specs.declared.Line.the-variants as Line
 use Rattle.scene_records.specs.declared.Fault.{Fault}
-use Rattle.scene_records.specs.declared.Fault.the-variants.{NotMet}
 use Rattle.scene_records.specs.Records.{floatsAt}
 use Rattle.scene_store.specs.declared.Area.{Area}
 use Rattle.scene_notes.specs.declared.Notes.{Notes}
@@ -29,12 +27,23 @@ use Rattle.scene_notes.specs.declared.Judged.the-variants.{Fine, Bad}
 use Rattle.scene_steps.specs.declared.Report.{Report}
 use Rattle.scene_steps.specs.declared.Report.the-variants as Report
 use Rattle.scene_steps.specs.declared.Stepped.{Stepped}
-use Rattle.scene_notes.specs.Noted.{Scene, indexOf, areasOf, view, passedNotes, Addable, areaAt, addedNotes, judgeArea}
-use Rattle.scene_notes.proofs.Tables.{met-count, Allowed, allowed}
+use Rattle.scene_notes.specs.Noted.{Scene, indexOf, areasOf, view, passedNotes, Addable, areaAt, addedNotes, judgeArea, isPast, judgeNumbers, judgeNamed}
+use Rattle.scene_notes.proofs.Tables.{met-count, Allowed, allowed, all-met, one-judged, two-judged}
 use Rattle.scene_store.specs.Store.{nobody, after, builtAt, triangleCount, placeIn, pairIn, Lies, Room}
-use Rattle.scene_steps.specs.Steps.{passedBy, withArea, areaMade, areaStep, placeTold, placeStep, pairTold, pairStep, Good, placeReport, pairReport, Sized, Ready}
-use Rattle.scene_steps.specs.Steps.{StepOutcome, outcomeWith, notesOf, outcomeOf, areaMadeOutcome, areaOutcome, placeOutcome, pairOutcome}
+use Rattle.scene_steps.specs.Steps.{refused, refusedAt, ofPositions, refusal, refusedIndex, passedBy, withArea, areaMade, areaStep, placeTold, placeMet, placeStep, pairTold, pairMet, pairStep, Good}
+use Rattle.scene_steps.specs.Steps.{refusalReport, placeReport, pairReport, Sized, Ready}
+use Rattle.scene_steps.specs.Steps.{StepOutcome, outcomeWith, notesOf, outcomeOf, areaMadeOutcome, areaOutcome, placeMetOutcome, placeOutcome, pairMetOutcome, pairOutcome}
 use Rattle.scene_store.proofs.Counts.{built-count}
+
+-- a call's own refusal, as the program reports it, leaves all as it was
+module _ (c at-refusal : Notes) (ps ns : List Float) (cs : List ℕ) (k index : ℕ) where
+  refusal-by : (b : Bool) → outcomeWith (cond b (Report.RefusedAt k index) (Report.Refused k)) at-refusal ps ns cs ≡ outcomeOf (cond b (refusedAt k index) (refused k)) c at-refusal ps ns cs
+  refusal-by true = refl
+  refusal-by false = refl
+
+  pub refusal-same : outcomeWith (refusalReport k index) at-refusal ps ns cs ≡ outcomeOf (refusal k index) c at-refusal ps ns cs
+  unfolding refusalReport refusal
+  refusal-same = refusal-by (ofPositions k)
 
 -- an area that was met lies in the store
 pub lies : {s : List ℕ} {w : Scene} → Good s w → Sized (length (w .positions)) (length (w .normals)) (length (w .classes)) → (i : ℕ) → i < length (w .areas)
@@ -61,40 +70,64 @@ module _ {s : List ℕ} {c : Notes} {size : ℕ} {ps ns : List Float} {cs : List
   passed-notes n = rw (met-count c (r .kept), take-append-drop (c .met) (c .areas))
 
   -- ---- a place
-  place-same : (t : Told) (number : ℕ) → outcomeWith (placeReport t number) (passedNotes c 32) ps ns cs ≡ outcomeOf (placeTold here number t) c (passedNotes c 32) ps ns cs
-  place-same (Ask.refused k) number = refl
+  place-same : (t : Told) (number : ℕ) → outcomeWith (placeReport t number (refusedIndex s (c .at) 1)) (passedNotes c 32) ps ns cs ≡ outcomeOf (placeTold s here number t) c (passedNotes c 32) ps ns cs
+  place-same (Ask.refused k) number = refusal-same c (passedNotes c 32) ps ns cs k (refusedIndex s (c .at) 1)
   place-same (Ask.answer n) number = ap (λ (x : Notes). outcomeWith (Report.Line (Line.Place number n)) x ps ns cs) (passed-notes 32)
 
-  pub place-missing : (number : ℕ) {i : ℕ} → i ≡ indexOf (areasOf c) number → c .met ≤ i → outcomeWith (Report.Bad NotMet) c ps ns cs ≡ placeOutcome s c number ps ns cs
-  unfolding placeStep
-  place-missing number e h = rw (← e, met-count c (r .kept), le-ltb _ _ h)
-
-  pub place-met : (number : ℕ) {i : ℕ} {a : Area} {p : Vec3} {t : Told} {o : Report} {n : Notes} → i ≡ indexOf (areasOf c) number → i < c .met
-      → a ≡ getD (areasOf c) i nobody → p ≡ vecOf s (c .at + 8) → t ≡ placeIn a ps ns cs p → o ≡ placeReport t number → n ≡ passedNotes c 32
-      → outcomeWith o n ps ns cs ≡ placeOutcome s c number ps ns cs
-  unfolding placeStep
-  place-met number {t = t} e h ea ep et eo en = rw (en, eo, ← e, met-count c (r .kept), lt-ltb _ _ h, ← ea, ← ep, ← et) (place-same t number)
+  pub place-told-met : (number : ℕ) {i : ℕ} {a : Area} {p : Vec3} {t : Told} {o : Report} {n : Notes} → i ≡ indexOf (areasOf c) number
+      → a ≡ getD (areasOf c) i nobody → p ≡ vecOf s (c .at + 8) → t ≡ placeIn a ps ns cs p → o ≡ placeReport t number (refusedIndex s (c .at) 1) → n ≡ passedNotes c 32
+      → outcomeWith o n ps ns cs ≡ placeMetOutcome s c number ps ns cs
+  unfolding placeMet
+  place-told-met number {t = t} e ea ep et eo en = rw (en, eo, ← e, ← ea, ← ep, ← et) (place-same t number)
 
   -- ---- a pair
   pair-same : (t : Told) (number other : ℕ) → outcomeWith (pairReport t number other) (passedNotes c 10) ps ns cs ≡ outcomeOf (pairTold here number other t) c (passedNotes c 10) ps ns cs
   pair-same (Ask.refused k) number other = refl
   pair-same (Ask.answer n) number other = ap (λ (x : Notes). outcomeWith (Report.Line (Line.Pair number other n)) x ps ns cs) (passed-notes 10)
 
-  pub pair-missing : (number other : ℕ) {i : ℕ} → i ≡ indexOf (areasOf c) number → c .met ≤ i → outcomeWith (Report.Bad NotMet) c ps ns cs ≡ pairOutcome c number other ps ns cs
-  unfolding pairStep
-  pair-missing number other e h = rw (← e, met-count c (r .kept), le-ltb _ _ h)
-
-  pub pair-half : (number other : ℕ) {i j : ℕ} → i ≡ indexOf (areasOf c) number → i < c .met → j ≡ indexOf (areasOf c) other → c .met ≤ j
-      → outcomeWith (Report.Bad NotMet) c ps ns cs ≡ pairOutcome c number other ps ns cs
-  unfolding pairStep
-  pair-half number other e h f g = rw (← e, ← f, met-count c (r .kept), lt-ltb _ _ h, le-ltb _ _ g)
-
-  pub pair-met : (number other : ℕ) {i j : ℕ} {a b : Area} {t : Told} {o : Report} {n : Notes} → i ≡ indexOf (areasOf c) number → i < c .met → j ≡ indexOf (areasOf c) other → j < c .met
+  pub pair-told-met : (number other : ℕ) {i j : ℕ} {a b : Area} {t : Told} {o : Report} {n : Notes} → i ≡ indexOf (areasOf c) number → j ≡ indexOf (areasOf c) other
       → a ≡ getD (areasOf c) i nobody → b ≡ getD (areasOf c) j nobody → t ≡ pairIn a b ps ns cs → o ≡ pairReport t number other → n ≡ passedNotes c 10
-      → outcomeWith o n ps ns cs ≡ pairOutcome c number other ps ns cs
-  unfolding pairStep
-  pair-met number other {t = t} e h f g ea eb et eo en =
-      rw (en, eo, ← e, ← f, met-count c (r .kept), lt-ltb _ _ h, lt-ltb _ _ g, ← ea, ← eb, ← et) (pair-same t number other)
+      → outcomeWith o n ps ns cs ≡ pairMetOutcome c number other ps ns cs
+  unfolding pairMet
+  pair-told-met number other {t = t} e f ea eb et eo en = rw (en, eo, ← e, ← f, ← ea, ← eb, ← et) (pair-same t number other)
+
+  -- ---- the numbers that a record names, as they were judged by their indexes: a fault ends the step, and where they are fine each was met
+  met-below : (numbers : List ℕ) → Fine ≡ judgeNamed (areasOf c) (c .at) numbers → (k : ℕ) → k < length numbers → {i : ℕ} → i ≡ indexOf (areasOf c) (getD numbers k 0) → i < c .met
+  met-below numbers f k h e = omega (arith, e, all-met (areasOf c) (c .at) numbers f k h, met-count c (r .kept))
+
+  module _ (number : ℕ) {i : ℕ} {j : Judged} (e : i ≡ indexOf (areasOf c) number) (h : j ≡ judgeNumbers (isPast (c .met) (i ∷ [])) (c .at) (number ∷ [])) where
+    one : j ≡ judgeNamed (areasOf c) (c .at) (number ∷ [])
+    one = h ∙ one-judged (areasOf c) (c .at) number (met-count c (r .kept)) e
+
+    pub place-bad : {f : Fault} {field : ℕ} → j ≡ Bad f field → outcomeWith (Report.Bad f field) c ps ns cs ≡ placeOutcome s c number ps ns cs
+    unfolding placeStep
+    place-bad q = rw (← one, q)
+
+    pub place-below : j ≡ Fine → i < c .met
+    place-below q = met-below (number ∷ []) (sym q ∙ one) 0 (omega arith) e
+
+    pub place-fine : {o : StepOutcome} → j ≡ Fine → o ≡ placeMetOutcome s c number ps ns cs → o ≡ placeOutcome s c number ps ns cs
+    unfolding placeStep
+    place-fine q g = rw (← one, q) g
+
+  module _ (number other : ℕ) {i k : ℕ} {j : Judged} (e : i ≡ indexOf (areasOf c) number) (f : k ≡ indexOf (areasOf c) other)
+      (h : j ≡ judgeNumbers (isPast (c .met) (i ∷ k ∷ [])) (c .at) (number ∷ other ∷ [])) where
+    two : j ≡ judgeNamed (areasOf c) (c .at) (number ∷ other ∷ [])
+    two = h ∙ two-judged (areasOf c) (c .at) number other (met-count c (r .kept)) e f
+
+    pub pair-bad : {x : Fault} {field : ℕ} → j ≡ Bad x field → outcomeWith (Report.Bad x field) c ps ns cs ≡ pairOutcome c number other ps ns cs
+    unfolding pairStep
+    pair-bad q = rw (← two, q)
+
+    pub first-below : j ≡ Fine → i < c .met
+    first-below q = met-below (number ∷ other ∷ []) (sym q ∙ two) 0 (omega arith) e
+
+    pub second-below : j ≡ Fine → k < c .met
+    second-below q = met-below (number ∷ other ∷ []) (sym q ∙ two) 1 (omega arith) f
+
+    pub pair-fine : {o : StepOutcome} → j ≡ Fine → o ≡ pairMetOutcome c number other ps ns cs → o ≡ pairOutcome c number other ps ns cs
+    unfolding pairStep
+    pair-fine q g = rw (← two, q) g
 
 -- ---- a build that is refused leaves the store as it was
 module _ (l qs ms : List Float) (ds : List ℕ) {k : ℕ} where
@@ -113,9 +146,9 @@ store-kept l used ps ns cs {k} e =
     ap (after used ps ns cs) q ∙ rw (take-append-drop (3 * used) ps, take-append-drop (3 * used) ns, take-append-drop used cs)
 
 -- ---- an area that may come in
-module _ {s : List ℕ} {c : Notes} {ps ns : List Float} {cs : List ℕ} (number count : ℕ) (r : Ready s c (8 + 24 * count) ps ns cs) (f : Fine ≡ judgeArea (areasOf c) (c .given) number count) where
+module _ {s : List ℕ} {c : Notes} {ps ns : List Float} {cs : List ℕ} (number count : ℕ) (r : Ready s c (8 + 24 * count) ps ns cs) (f : Fine ≡ judgeArea (areasOf c) (c .given) (c .at) number count) where
   may : Allowed (c .met) (c .given) count
-  may = rw (met-count c (r .kept)) at (allowed (areasOf c) (c .given) number count f)
+  may = rw (met-count c (r .kept)) at (allowed (areasOf c) (c .given) (c .at) number count f)
 
   pub room : (count ≤ 1024) × Room s (c .at + 8) count (c .used) (3 * count) (length ps) (length ns) (length cs)
   room = (
@@ -133,12 +166,14 @@ module _ {s : List ℕ} {c : Notes} {ps ns : List Float} {cs : List ℕ} (number
 
   -- what the build answered and left
   module _ {b : Built} {ps′ ns′ : List Float} {cs′ : List ℕ} (e : record { answer = B.told b; positions = ps′; normals = ns′; classes = cs′ } ≡ builtAt (floatsAt s (c .at + 8) count) (c .used) ps ns cs) where
-    pub area-refused : {k : ℕ} → b ≡ Built.Refused k → outcomeWith (Report.Refused k) c ps′ ns′ cs′ ≡ areaMadeOutcome s c number count ps ns cs
+    pub area-refused : {k : ℕ} → b ≡ Built.Refused k → {o : Report} → o ≡ refusalReport k (refusedIndex s (c .at) count)
+        → outcomeWith o c ps′ ns′ cs′ ≡ areaMadeOutcome s c number count ps ns cs
     unfolding areaMade
-    area-refused {k} q =
+    area-refused {k} q {o} v =
         let l = floatsAt s (c .at + 8) count in
         let z = store-kept l (c .used) ps ns cs (sym (ap B.told q) ∙ ap (λ (o : B.Outcome). o .answer) e) in
-        ap (λ (o : B.Outcome). outcomeWith (Report.Refused k) c (o .positions) (o .normals) (o .classes)) (e ∙ z) ∙ rw z
+        ap (λ (x : B.Outcome). outcomeWith o c (x .positions) (x .normals) (x .classes)) (e ∙ z)
+        ∙ rw (v, z) (refusal-same c c ps ns cs k (refusedIndex s (c .at) count))
 
     module _ {h : Header} (q : b ≡ Built.Loop h) where
       fits : h .count ≤ count
@@ -173,8 +208,8 @@ module _ {s : List ℕ} {c : Notes} {ps ns : List Float} {cs : List ℕ} (number
           (added-notes (record { answer = B.loop h; positions = ps′; normals = ns′; classes = cs′ })))
 
 -- ---- an area as it was judged
-module _ {s : List ℕ} {c : Notes} {ps ns : List Float} {cs : List ℕ} (number count : ℕ) (r : Ready s c (8 + 24 * count) ps ns cs) {j : Judged} (e : j ≡ judgeArea (areasOf c) (c .given) number count) where
-  pub area-bad : {f : Fault} → j ≡ Bad f → outcomeWith (Report.Bad f) c ps ns cs ≡ areaOutcome s c number count ps ns cs
+module _ {s : List ℕ} {c : Notes} {ps ns : List Float} {cs : List ℕ} (number count : ℕ) (r : Ready s c (8 + 24 * count) ps ns cs) {j : Judged} (e : j ≡ judgeArea (areasOf c) (c .given) (c .at) number count) where
+  pub area-bad : {f : Fault} {field : ℕ} → j ≡ Bad f field → outcomeWith (Report.Bad f field) c ps ns cs ≡ areaOutcome s c number count ps ns cs
   unfolding areaStep
   area-bad q = rw (← e, q)
 

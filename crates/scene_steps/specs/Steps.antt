@@ -1,12 +1,13 @@
--- What one record comes to (SCOPE 28, 29). Definitions only.
+-- What one record comes to (SCOPE 28, 29, 46, 47). Definitions only.
 use Prim.Native.Nat.{ℕ, _+_, _*_, _≤_, _<_}
 use mathlib.Core.Path.{_≡_}
-use mathlib.Core.Bool.{Bool, cond}
+use mathlib.Core.Bool.{_||_, Bool, cond}
 use mathlib.Core.List.{List, [], _∷_, _++_}
 use lib.ListN.{length, drop, getD}
-use lib.Dec.{ltb}
+use lib.Dec.{eqb}
 use lib.Ieee.{Float}
 use Rattle.wire.specs.Wire.{vecOf}
+use Rattle.judge.specs.Judge.{firstRefused}
 use Rattle.loop_build.specs.Build.{Outcome}
 use Rattle.loop_build.specs.Build as B
 use Rattle.loop_ask.specs.Answers.{Told}
@@ -14,7 +15,6 @@ use Rattle.loop_ask.specs.Answers as Ask
 use Rattle.scene_lines.specs.declared.Line.{Line}
 use Rattle.scene_lines.specs.declared.Line.the-variants as Line
 use Rattle.scene_records.specs.declared.Fault.{Fault}
-use Rattle.scene_records.specs.declared.Fault.the-variants.{NotMet}
 use Rattle.scene_records.specs.declared.Read.{Read}
 use Rattle.scene_records.specs.declared.Read.the-variants as Read
 use Rattle.scene_records.specs.Records.{readAt, floatsAt}
@@ -25,15 +25,28 @@ use Rattle.scene_notes.specs.declared.Judged.the-variants.{Fine, Bad}
 use Rattle.scene_steps.specs.declared.Stepped.{Stepped}
 use Rattle.scene_steps.specs.declared.Report.{Report}
 use Rattle.scene_steps.specs.declared.Report.the-variants as Report
-use Rattle.scene_notes.specs.Noted.{Scene, indexOf, Kept, view, passedNotes, areaAt, judgeArea}
+use Rattle.scene_notes.specs.Noted.{Scene, indexOf, Kept, view, passedNotes, areaAt, judgeArea, judgeNamed}
 use Rattle.scene_store.specs.Store.{nobody, builtAt, triangleCount, placeIn, pairIn}
 
--- what a record comes to: there is none, its fault, a call's own refusal, or its line and the scene after it
+-- what a record comes to: there is none; its fault and that field's offset; a call's own refusal, of a list of positions with the index of the first that is
+-- refused; or its line and the scene after it
 pub data Step : Type 0 where
   ended : Step
-  faulty : Fault → Step
+  faulty : Fault → ℕ → Step
   refused : ℕ → Step
+  refusedAt : ℕ → ℕ → Step
   wrote : Line → Scene → Step
+
+-- SCOPE 46: 3 and 4 are of one position in a list, which stands behind the area number of the record at an offset: `count` positions, of a place one
+abbrev pub ofPositions : ℕ → Bool
+ofPositions k = eqb k 3 || eqb k 4
+
+abbrev pub refusedIndex : List ℕ → ℕ → ℕ → ℕ
+refusedIndex s at count = firstRefused (floatsAt s (at + 8) count) count
+
+-- a call's own refusal: 3 and 4 with the index of that position
+unfoldable pub refusal : ℕ → ℕ → Step
+refusal k index = cond (ofPositions k) (refusedAt k index) (refused k)
 
 -- the scene after a record of `size` bytes that brings no area
 abbrev pub passedBy : ℕ → Scene → Scene
@@ -63,55 +76,62 @@ withArea w a count o = record {
 }
 
 -- SCOPE 28: the ring goes into the still unused rest of one lent store
-abbrev pub areaTold : Scene → ℕ → ℕ → Outcome → B.Told → Step
-areaTold w number count o (B.refused k) = refused k
-areaTold w number count o (B.loop h) = wrote (Line.Area number h (triangleCount (areaAt (w .used) number h) (o .positions) (o .classes))) (withArea w (areaAt (w .used) number h) count o)
+abbrev pub areaTold : List ℕ → Scene → ℕ → ℕ → Outcome → B.Told → Step
+areaTold s w number count o (B.refused k) = refusal k (refusedIndex s (w .at) count)
+areaTold s w number count o (B.loop h) = wrote (Line.Area number h (triangleCount (areaAt (w .used) number h) (o .positions) (o .classes))) (withArea w (areaAt (w .used) number h) count o)
 
 abbrev pub areaOut : List ℕ → Scene → ℕ → Outcome
 areaOut s w count = builtAt (floatsAt s (w .at + 8) count) (w .used) (w .positions) (w .normals) (w .classes)
 
 unfoldable pub areaMade : List ℕ → Scene → ℕ → ℕ → Step
-areaMade s w number count = areaTold w number count (areaOut s w count) (areaOut s w count .answer)
+areaMade s w number count = areaTold s w number count (areaOut s w count) (areaOut s w count .answer)
 
--- SCOPE 29: refusal 10 comes ahead of a call's own refusal
+-- SCOPE 29: a record's fault comes ahead of a call's own refusal
 abbrev pub areaBy : Judged → List ℕ → Scene → ℕ → ℕ → Step
-areaBy (Bad f) s w number count = faulty f
+areaBy (Bad f field) s w number count = faulty f field
 areaBy Fine s w number count = areaMade s w number count
 
 unfoldable pub areaStep : List ℕ → Scene → ℕ → ℕ → Step
-areaStep s w number count = areaBy (judgeArea (w .areas) (w .given) number count) s w number count
+areaStep s w number count = areaBy (judgeArea (w .areas) (w .given) (w .at) number count) s w number count
 
 -- the area of a number that was met
 abbrev pub met : Scene → ℕ → Area
 met w number = getD (w .areas) (indexOf (w .areas) number) nobody
 
-abbrev pub isMet : Scene → ℕ → Bool
-isMet w number = ltb (indexOf (w .areas) number) (length (w .areas))
-
 -- ---- kind 2, of an area that was met
-abbrev pub placeTold : Scene → ℕ → Told → Step
-placeTold w number (Ask.refused k) = refused k
-placeTold w number (Ask.answer n) = wrote (Line.Place number n) (passedBy 32 w)
+abbrev pub placeTold : List ℕ → Scene → ℕ → Told → Step
+placeTold s w number (Ask.refused k) = refusal k (refusedIndex s (w .at) 1)
+placeTold s w number (Ask.answer n) = wrote (Line.Place number n) (passedBy 32 w)
+
+unfoldable pub placeMet : List ℕ → Scene → ℕ → Step
+placeMet s w number = placeTold s w number (placeIn (met w number) (w .positions) (w .normals) (w .classes) (vecOf s (w .at + 8)))
+
+abbrev pub placeBy : Judged → List ℕ → Scene → ℕ → Step
+placeBy (Bad f field) s w number = faulty f field
+placeBy Fine s w number = placeMet s w number
 
 unfoldable pub placeStep : List ℕ → Scene → ℕ → Step
-placeStep s w number =
-    cond (isMet w number) (placeTold w number (placeIn (met w number) (w .positions) (w .normals) (w .classes) (vecOf s (w .at + 8)))) (faulty NotMet)
+placeStep s w number = placeBy (judgeNamed (w .areas) (w .at) (number ∷ [])) s w number
 
 -- ---- kind 3, of two areas that were met
 abbrev pub pairTold : Scene → ℕ → ℕ → Told → Step
 pairTold w number other (Ask.refused k) = refused k
 pairTold w number other (Ask.answer n) = wrote (Line.Pair number other n) (passedBy 10 w)
 
+unfoldable pub pairMet : Scene → ℕ → ℕ → Step
+pairMet w number other = pairTold w number other (pairIn (met w number) (met w other) (w .positions) (w .normals) (w .classes))
+
+abbrev pub pairBy : Judged → Scene → ℕ → ℕ → Step
+pairBy (Bad f field) w number other = faulty f field
+pairBy Fine w number other = pairMet w number other
+
 unfoldable pub pairStep : Scene → ℕ → ℕ → Step
-pairStep w number other =
-    cond (isMet w number)
-    (cond (isMet w other) (pairTold w number other (pairIn (met w number) (met w other) (w .positions) (w .normals) (w .classes))) (faulty NotMet))
-    (faulty NotMet)
+pairStep w number other = pairBy (judgeNamed (w .areas) (w .at) (number ∷ other ∷ [])) w number other
 
 -- ---- a record by its kind
 abbrev pub stepBy : Read → List ℕ → Scene → Step
 stepBy Read.End s w = ended
-stepBy (Read.Bad f place) s w = faulty f
+stepBy (Read.Bad f field) s w = faulty f field
 stepBy (Read.Area number count) s w = areaStep s w number count
 stepBy (Read.Place number) s w = placeStep s w number
 stepBy (Read.Pair number other) s w = pairStep w number other
@@ -132,8 +152,9 @@ pub record Good (s : List ℕ) (w : Scene) : Type 0 where
 -- the program's answer to a record, with the store as it left it
 abbrev pub reportStep : Report → Scene → Step
 reportStep Report.End w = ended
-reportStep (Report.Bad f) w = faulty f
+reportStep (Report.Bad f field) w = faulty f field
 reportStep (Report.Refused k) w = refused k
+reportStep (Report.RefusedAt k index) w = refusedAt k index
 reportStep (Report.Line line) w = wrote line w
 
 abbrev pub toldStep : Stepped → List Float → List Float → List ℕ → Step
@@ -164,8 +185,9 @@ notesOf table w = record {
 -- after a line all are those of the scene after it
 abbrev pub outcomeOf : Step → Notes → Notes → List Float → List Float → List ℕ → StepOutcome
 outcomeOf ended c at-refusal ps ns cs = outcomeWith Report.End c ps ns cs
-outcomeOf (faulty f) c at-refusal ps ns cs = outcomeWith (Report.Bad f) c ps ns cs
+outcomeOf (faulty f field) c at-refusal ps ns cs = outcomeWith (Report.Bad f field) c ps ns cs
 outcomeOf (refused k) c at-refusal ps ns cs = outcomeWith (Report.Refused k) at-refusal ps ns cs
+outcomeOf (refusedAt k index) c at-refusal ps ns cs = outcomeWith (Report.RefusedAt k index) at-refusal ps ns cs
 outcomeOf (wrote line next) c at-refusal ps ns cs = outcomeWith (Report.Line line) (notesOf (c .areas) next) (next .positions) (next .normals) (next .classes)
 
 -- of each kind. An area that is refused is not noted; a place or a pair that is refused counts as read. No record comes after a refusal to read these notes
@@ -175,8 +197,14 @@ areaMadeOutcome s c number count ps ns cs = outcomeOf (areaMade s (view c ps ns 
 abbrev pub areaOutcome : List ℕ → Notes → ℕ → ℕ → List Float → List Float → List ℕ → StepOutcome
 areaOutcome s c number count ps ns cs = outcomeOf (areaStep s (view c ps ns cs) number count) c c ps ns cs
 
+abbrev pub placeMetOutcome : List ℕ → Notes → ℕ → List Float → List Float → List ℕ → StepOutcome
+placeMetOutcome s c number ps ns cs = outcomeOf (placeMet s (view c ps ns cs) number) c (passedNotes c 32) ps ns cs
+
 abbrev pub placeOutcome : List ℕ → Notes → ℕ → List Float → List Float → List ℕ → StepOutcome
 placeOutcome s c number ps ns cs = outcomeOf (placeStep s (view c ps ns cs) number) c (passedNotes c 32) ps ns cs
+
+abbrev pub pairMetOutcome : Notes → ℕ → ℕ → List Float → List Float → List ℕ → StepOutcome
+pairMetOutcome c number other ps ns cs = outcomeOf (pairMet (view c ps ns cs) number other) c (passedNotes c 10) ps ns cs
 
 abbrev pub pairOutcome : Notes → ℕ → ℕ → List Float → List Float → List ℕ → StepOutcome
 pairOutcome c number other ps ns cs = outcomeOf (pairStep (view c ps ns cs) number other) c (passedNotes c 10) ps ns cs
@@ -184,7 +212,7 @@ pairOutcome c number other ps ns cs = outcomeOf (pairStep (view c ps ns cs) numb
 -- the notes at a refusal, by the record that was read
 abbrev pub refusedNotes : Read → Notes → Notes
 refusedNotes Read.End c = c
-refusedNotes (Read.Bad f place) c = c
+refusedNotes (Read.Bad f field) c = c
 refusedNotes (Read.Area number count) c = c
 refusedNotes (Read.Place number) c = passedNotes c 32
 refusedNotes (Read.Pair number other) c = passedNotes c 10
@@ -193,9 +221,12 @@ unfoldable pub stepOutcome : List ℕ → Notes → List Float → List Float �
 stepOutcome s c ps ns cs = outcomeOf (step s (view c ps ns cs)) c (refusedNotes (readAt s (c .at)) c) ps ns cs
 
 -- an answer told, as the program's report
-abbrev pub placeReport : Told → ℕ → Report
-placeReport (Ask.refused k) number = Report.Refused k
-placeReport (Ask.answer n) number = Report.Line (Line.Place number n)
+unfoldable pub refusalReport : ℕ → ℕ → Report
+refusalReport k index = cond (ofPositions k) (Report.RefusedAt k index) (Report.Refused k)
+
+abbrev pub placeReport : Told → ℕ → ℕ → Report
+placeReport (Ask.refused k) number index = refusalReport k index
+placeReport (Ask.answer n) number index = Report.Line (Line.Place number n)
 
 abbrev pub pairReport : Told → ℕ → ℕ → Report
 pairReport (Ask.refused k) number other = Report.Refused k

@@ -1,6 +1,7 @@
 // A scene's records taken one by one: what each comes to.
 ghost use mathlib.Core.Path.{_≡_};
-ghost use Prim.Native.Nat.{_+_, _*_};
+ghost use Prim.Native.Nat.{_+_, _*_, _≤_, _<_};
+ghost use lib.ListN.{length};
 ghost use Rattle.loop_ask.specs.Answers.{toldPlaced};
 ghost use Rattle.loop_relate.specs.Relations.{toldRelated};
 ghost use Rattle.scene_store.specs.Store as St;
@@ -17,11 +18,13 @@ use scene_records::Fault;
 use scene_records::Read;
 use scene_store::Area;
 
-// What a record comes to: there is none, its fault, a call's own refusal, or its line.
+// What a record comes to: there is none; its fault and that field's offset; a call's own refusal, of a list of positions with the index of the first that
+// is refused; or its line.
 pub enum Report {
     End,
-    Bad(Fault),
+    Bad(Fault, usize),
     Refused(u8),
+    RefusedAt(u8, usize),
     Line(Line),
 }
 
@@ -29,6 +32,24 @@ pub enum Report {
 pub struct Stepped {
     pub report: Report,
     pub next: Notes,
+}
+
+// Whether a refusal is of one position in a list.
+fn is_of_positions(k: u8) -> bool
+    ensures { λ r. ⌜ r ≡ S.ofPositions k ⌝ }
+{
+    (k == 3) | (k == 4)
+}
+
+// A call's own refusal: 3 and 4 come with the index of the first position refused, of the list that stands in the record at `at`.
+fn refusal(s: &[u8], at: usize, count: usize, k: u8) -> Report
+    requires { ⌜ (length (now s) ≤ 65536) × (count ≤ 1024) × (at + (8 + 24 * count) ≤ length (now s)) ⌝ }
+    ensures { λ r. ⌜ r ≡ S.refusalReport k (S.refusedIndex (now (s .entry)) at count) ⌝ }
+{
+    if !is_of_positions(k) {
+        return Report::Refused(k);
+    }
+    Report::RefusedAt(k, scene_records::first_refused(s, at + 8, count))
 }
 
 // The line of an area that was built, and the notes with it.
@@ -69,13 +90,13 @@ fn area_made(
     normals: &mut [f64],
     classes: &mut [u8],
 ) -> Stepped
-    requires { ⌜ S.Ready (now s) c (8 + 24 * count) (now positions) (now normals) (now classes) × (Judged.Fine ≡ N.judgeArea (N.areasOf c) (c .given) number count) ⌝ }
+    requires { ⌜ S.Ready (now s) c (8 + 24 * count) (now positions) (now normals) (now classes) × (Judged.Fine ≡ N.judgeArea (N.areasOf c) (c .given) (c .at) number count) ⌝ }
     ensures { λ r. ⌜ record { stepped = r; positions = now (positions .exit); normals = now (normals .exit); classes = now (classes .exit) }
         ≡ S.areaMadeOutcome (now (s .entry)) c number count (now (positions .entry)) (now (normals .entry)) (now (classes .entry)) ⌝ }
 {
     match scene_store::build_area(s, c.at + 8, count, c.used, positions, normals, classes) {
         Built::Refused(k) => Stepped {
-            report: Report::Refused(k),
+            report: refusal(s, c.at, count, k),
             next: c,
         },
         Built::Loop(h) => area_line(c, number, count, h, positions, normals, classes),
@@ -96,23 +117,47 @@ fn area_step(
         ≡ S.areaOutcome (now (s .entry)) c number count (now (positions .entry)) (now (normals .entry)) (now (classes .entry)) ⌝ }
 {
     match scene_notes::judge_area(c, number, count) {
-        Judged::Bad(f) => Stepped {
-            report: Report::Bad(f),
+        Judged::Bad(f, field) => Stepped {
+            report: Report::Bad(f, field),
             next: c,
         },
         Judged::Fine => area_made(s, c, number, count, positions, normals, classes),
     }
 }
 
-// The line of a place, by its answer's number.
-fn place_told(p: Placed, number: usize) -> Report
-    ensures { λ r. ⌜ r ≡ S.placeReport (toldPlaced p) number ⌝ }
+// The line of a place, by its answer's number. The place is a list of one.
+fn place_told(s: &[u8], at: usize, p: Placed, number: usize) -> Report
+    requires { ⌜ (length (now s) ≤ 65536) × (at + 32 ≤ length (now s)) ⌝ }
+    ensures { λ r. ⌜ r ≡ S.placeReport (toldPlaced p) number (S.refusedIndex (now (s .entry)) at 1) ⌝ }
 {
     match p {
-        Placed::Refused(k) => Report::Refused(k),
+        Placed::Refused(k) => refusal(s, at, 1, k),
         Placed::Outside => Report::Line(Line::Place(number, 0)),
         Placed::Inside => Report::Line(Line::Place(number, 1)),
         Placed::Mute => Report::Line(Line::Place(number, 2)),
+    }
+}
+
+// A place of an area that was met, by its index among them.
+fn place_met(
+    s: &[u8],
+    c: Notes,
+    number: usize,
+    i: usize,
+    positions: &[f64],
+    normals: &[f64],
+    classes: &[u8],
+) -> Stepped
+    requires { ⌜ S.Ready (now s) c 32 (now positions) (now normals) (now classes) × (i ≡ N.indexOf (N.areasOf c) number) × (i < c .met) ⌝ }
+    ensures { λ r. ⌜ record { stepped = r; positions = now (positions .entry); normals = now (normals .entry); classes = now (classes .entry) }
+        ≡ S.placeMetOutcome (now (s .entry)) c number (now (positions .entry)) (now (normals .entry)) (now (classes .entry)) ⌝ }
+{
+    let a = scene_notes::area_of(c, i);
+    let p = wire::vec_at(s, c.at + 8);
+    let placed = scene_store::place_in(a, positions, normals, classes, p);
+    Stepped {
+        report: place_told(s, c.at, placed, number),
+        next: scene_notes::passed(c, 32),
     }
 }
 
@@ -129,18 +174,14 @@ fn place_step(
         ≡ S.placeOutcome (now (s .entry)) c number (now (positions .entry)) (now (normals .entry)) (now (classes .entry)) ⌝ }
 {
     let i = scene_notes::index_of(c, number);
-    if c.met <= i {
-        return Stepped {
-            report: Report::Bad(Fault::NotMet),
+    let numbers = [number];
+    let indexes = [i];
+    match scene_notes::judge_numbers(c.at, c.met, &numbers, &indexes) {
+        Judged::Bad(f, field) => Stepped {
+            report: Report::Bad(f, field),
             next: c,
-        };
-    }
-    let a = scene_notes::area_of(c, i);
-    let p = wire::vec_at(s, c.at + 8);
-    let placed = scene_store::place_in(a, positions, normals, classes, p);
-    Stepped {
-        report: place_told(placed, number),
-        next: scene_notes::passed(c, 32),
+        },
+        Judged::Fine => place_met(s, c, number, i, positions, normals, classes),
     }
 }
 
@@ -159,6 +200,31 @@ fn pair_told(p: Related, number: usize, other: usize) -> Report
     }
 }
 
+// A pair of two areas that were met, by their indexes among them.
+fn pair_met(
+    s: &[u8],
+    c: Notes,
+    number: usize,
+    other: usize,
+    i: usize,
+    j: usize,
+    positions: &[f64],
+    normals: &[f64],
+    classes: &[u8],
+) -> Stepped
+    requires { ⌜ S.Ready (now s) c 10 (now positions) (now normals) (now classes) × ((i ≡ N.indexOf (N.areasOf c) number) × (i < c .met)) × ((j ≡ N.indexOf (N.areasOf c) other) × (j < c .met)) ⌝ }
+    ensures { λ r. ⌜ record { stepped = r; positions = now (positions .entry); normals = now (normals .entry); classes = now (classes .entry) }
+        ≡ S.pairMetOutcome c number other (now (positions .entry)) (now (normals .entry)) (now (classes .entry)) ⌝ }
+{
+    let a = scene_notes::area_of(c, i);
+    let b = scene_notes::area_of(c, j);
+    let related = scene_store::pair_in(a, b, positions, normals, classes);
+    Stepped {
+        report: pair_told(related, number, other),
+        next: scene_notes::passed(c, 10),
+    }
+}
+
 fn pair_step(
     s: &[u8],
     c: Notes,
@@ -173,25 +239,15 @@ fn pair_step(
         ≡ S.pairOutcome c number other (now (positions .entry)) (now (normals .entry)) (now (classes .entry)) ⌝ }
 {
     let i = scene_notes::index_of(c, number);
-    if c.met <= i {
-        return Stepped {
-            report: Report::Bad(Fault::NotMet),
-            next: c,
-        };
-    }
     let j = scene_notes::index_of(c, other);
-    if c.met <= j {
-        return Stepped {
-            report: Report::Bad(Fault::NotMet),
+    let numbers = [number, other];
+    let indexes = [i, j];
+    match scene_notes::judge_numbers(c.at, c.met, &numbers, &indexes) {
+        Judged::Bad(f, field) => Stepped {
+            report: Report::Bad(f, field),
             next: c,
-        };
-    }
-    let a = scene_notes::area_of(c, i);
-    let b = scene_notes::area_of(c, j);
-    let related = scene_store::pair_in(a, b, positions, normals, classes);
-    Stepped {
-        report: pair_told(related, number, other),
-        next: scene_notes::passed(c, 10),
+        },
+        Judged::Fine => pair_met(s, c, number, other, i, j, positions, normals, classes),
     }
 }
 
@@ -212,8 +268,8 @@ pub fn step(
             report: Report::End,
             next: c,
         },
-        Read::Bad(f, _) => Stepped {
-            report: Report::Bad(f),
+        Read::Bad(f, field) => Stepped {
+            report: Report::Bad(f, field),
             next: c,
         },
         Read::Area(number, count) => { area_step(s, c, number, count, positions, normals, classes) }

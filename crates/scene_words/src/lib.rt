@@ -1,9 +1,19 @@
-// The words and numbers of a scene's lines, written into a lent slice of bytes from an offset on. Each function answers the offset after its text.
+// The words and numbers of a scene's lines, written into a lent slice of bytes from an offset on. Each function answers the offset after its text; and the room
+// that a scene's text is written into.
+ghost use mathlib.Core.Path.{_≡_};
 ghost use mathlib.Core.List.{[], _∷_};
 ghost use Prim.Native.Nat.{_+_, _≤_, _<_};
 ghost use lib.ListN.{length};
 ghost use Rattle.scene_words.specs.Words as W;
 use loop_header::State;
+
+// Room for the longest text (scene_run). Its `ensures` gives the length alone, so that no proof looks at so many zeros; it stands here since its check takes
+// some 350 MiB, for which the crates above have no room.
+pub fn room() -> [u8; 196989]
+    ensures { λ r. ⌜ 196989 ≡ length r ⌝ }
+{
+    [0; 196989]
+}
 
 pub fn put(out: &mut [u8], at: usize, word: &[u8]) -> usize
     requires { ⌜ at + length (now word) ≤ length (now out) ⌝ }

@@ -96,6 +96,7 @@ of-exports = record {
   desk_arc_contains = λ κs a x y v w p q. (p ∙ sym q, refl);
   desk_arc_intersection = λ κs a. at-3;
   desk_arc_relate = λ κs a. at-3;
+  desk_scene = λ κs a. at-2;
 }
 
 of-probes : OfProbes

@@ -48,6 +48,7 @@ use Rattle.exports.proofs.minor_arcs.desk_arc_side as DeskArcSide
 use Rattle.exports.proofs.minor_arcs.desk_arc_contains as DeskArcContains
 use Rattle.exports.proofs.minor_arcs.desk_arc_intersection as DeskArcIntersection
 use Rattle.exports.proofs.minor_arcs.desk_arc_relate as DeskArcRelate
+use Rattle.exports.proofs.scenes.desk_scene as DeskScene
 use Rattle.scene_run.proofs.run as SceneRun
 use Rattle.test_probes.proofs.leaf_vec as LeafVec
 use Rattle.test_probes.proofs.leaf_number as LeafNumber
@@ -119,6 +120,7 @@ pub record OfExports : Type 0 where
   pub desk_arc_contains : One DeskArcContains.Kinds.ps DeskArcContains.Kinds.r DeskArcContains.Reads.Post
   pub desk_arc_intersection : One DeskArcIntersection.Kinds.ps DeskArcIntersection.Kinds.r DeskArcIntersection.Reads.Post
   pub desk_arc_relate : One DeskArcRelate.Kinds.ps DeskArcRelate.Kinds.r DeskArcRelate.Reads.Post
+  pub desk_scene : One DeskScene.Kinds.ps DeskScene.Kinds.r DeskScene.Reads.Post
 
 -- crate test_probes
 pub record OfProbes : Type 0 where

@@ -37,6 +37,7 @@ use Rattle.loop_triangles.proofs.triangulate as Triangulate
 use Rattle.loop_triangles.specs.Triangles.{toldCut, Outcome, laid, triangulateOutcome, acceptsAnswer}
 use Rattle.loop_relate.specs.Relations.{relateAnswer}
 use Rattle.theorem_wrongs.specs.Angles.{OfAngles}
+use Rattle.theorem_wrongs.specs.Scenes.{OfScenes}
 use Rattle.theorem_settled.specs.Settled.{six-tenths, eight-tenths, minus-six-tenths, at, built, blank, blank-classes, area-1, flat-list, headerOf, four-built, four-cut, four-checked, full-one, empty-one, related}
 
 -- ---- the inputs
@@ -351,3 +352,4 @@ pub record Wrongs : Type 0 where
   pub of-relating : OfRelating
   pub of-mute : OfMute
   pub of-contracts : OfContracts
+  pub of-scenes : OfScenes

@@ -24,6 +24,15 @@ impl Refusal {
             7 => "each of two loops is found in the other",
             8 => "the ring cannot be cut into triangles",
             9 => "triangles of an empty or full loop cannot be checked",
+            20 => "a record is cut short",
+            21 => "a record's kind is unknown",
+            22 => "a record's length is wrong for its kind",
+            23 => "an area number is zero",
+            24 => "an area has the number of another",
+            25 => "an area is named that no earlier record brought",
+            26 => "more than 16 areas",
+            27 => "more than 1,024 positions in all areas",
+            28 => "more than 65,536 bytes of a scene",
             _ => "a refusal that this crate does not know",
         }
     }
@@ -42,6 +51,8 @@ pub enum Error {
     Refused(Refusal),
     /// The export is not linked.
     Absent,
+    /// A text that the desk does not write for a scene.
+    Broken,
 }
 
 impl Display for Error {
@@ -49,6 +60,7 @@ impl Display for Error {
         match self {
             Error::Refused(r) => r.fmt(f),
             Error::Absent => f.write_str("the desk's library is not linked, or it has no such export"),
+            Error::Broken => f.write_str("the text is none of a scene"),
         }
     }
 }
@@ -61,7 +73,14 @@ pub type Answered<T> = Result<T, Error>;
 /// The most positions of a list, and corners of a ring.
 pub const MOST_POSITIONS: usize = 512;
 
+/// The most bytes of a scene.
+pub const MOST_SCENE_BYTES: usize = 65_536;
+
+/// Room for the text of any scene.
+pub const MOST_TEXT_BYTES: usize = 196_989;
+
 const REFUSED: u32 = 65_536;
+const SIZE_REFUSED: u64 = 1 << 32;
 const HEADER: usize = 88;
 
 fn answered(word: Option<u32>) -> Answered<u32> {
@@ -69,6 +88,15 @@ fn answered(word: Option<u32>) -> Answered<u32> {
         None => Err(Error::Absent),
         Some(w) if w >= REFUSED => Err(Error::Refused(Refusal(w - REFUSED))),
         Some(w) => Ok(w),
+    }
+}
+
+/// A size may be 65,536 or more, so that its refusals begin higher up.
+fn sized(word: Option<u64>) -> Answered<usize> {
+    match word {
+        None => Err(Error::Absent),
+        Some(w) if w >= SIZE_REFUSED => Err(Error::Refused(Refusal((w - SIZE_REFUSED) as u32))),
+        Some(w) => Ok(w as usize),
     }
 }
 
@@ -402,5 +430,77 @@ impl Display for Arc {
         coordinates(f, self.start())?;
         f.write_str(" to ")?;
         coordinates(f, self.end())
+    }
+}
+
+/// What the desk says of a scene, as the program `scene` prints it: a line for each record, and a last one for how it ended.
+/// A refused scene is an answer, too: `Ending` reads which record it was, and why.
+pub fn scene(records: &[u8]) -> Answered<String> {
+    let mut out = vec![0; MOST_TEXT_BYTES];
+    let n = sized(raw::desk_scene(records, &mut out))?;
+    out.truncate(n);
+    String::from_utf8(out).map_err(|_| Error::Broken)
+}
+
+/// How a scene ended, by the last line of its text.
+#[derive(Clone, Copy, Debug, PartialEq, Eq)]
+pub enum Ending {
+    /// Every record was answered.
+    Ended {
+        /// How many there were.
+        records: u32,
+    },
+    /// A record was refused, and nothing after it was read.
+    Refused {
+        /// Why.
+        refusal: Refusal,
+        /// The offset of the record.
+        record: u32,
+        /// The offset of the field at fault.
+        field: u32,
+        /// Of 3 and 4, and of no other: the index of the position in its list.
+        index: Option<u32>,
+    },
+}
+
+/// A number as the lines have it: no sign, and no zero before it.
+fn decimal(word: &str) -> Option<u32> {
+    word.parse().ok().filter(|n: &u32| n.to_string() == word)
+}
+
+impl Ending {
+    /// Reads the last line of a scene's text; `Error::Broken` where that is none.
+    pub fn read(text: &str) -> Answered<Ending> {
+        let lines = text.strip_suffix('\n').ok_or(Error::Broken)?;
+        Ending::of_line(lines.rsplit('\n').next().unwrap_or(lines)).ok_or(Error::Broken)
+    }
+
+    fn of_line(line: &str) -> Option<Ending> {
+        let words: Vec<&str> = line.split(' ').collect();
+        let (number, record, field, index) = match words.as_slice() {
+            ["end", records] => return Some(Ending::Ended { records: decimal(records)? }),
+            ["refused", number, "at", record, field] => (decimal(number)?, record, field, None),
+            ["refused", number, "at", record, field, index] => (decimal(number)?, record, field, Some(decimal(index)?)),
+            _ => return None,
+        };
+        let shaped = match number {
+            3 | 4 => index.is_some(),
+            2 | 7 | 20..=28 => index.is_none(),
+            _ => false,
+        };
+        let (record, field) = (decimal(record)?, decimal(field)?);
+        shaped.then_some(Ending::Refused { refusal: Refusal(number), record, field, index })
+    }
+}
+
+impl Display for Ending {
+    fn fmt(&self, f: &mut Formatter) -> fmt::Result {
+        match self {
+            Ending::Ended { records } => write!(f, "end {records}"),
+            Ending::Refused { refusal, record, field, index } => {
+                write!(f, "refused {} at {record} {field}", refusal.0)?;
+                index.map_or(Ok(()), |i| write!(f, " {i}"))
+            }
+        }
     }
 }

@@ -109,4 +109,6 @@ exports! {
         out: out_shorts) -> u32;
     /// The 12 positions that a full loop's triangles number, 36 floats: 12.
     has_desk_full_positions desk_full_positions(out: out_floats) -> u32;
+    /// How many bytes of text a scene has, written to `out`: a size, so that a refusal is 2^32 plus its number.
+    has_desk_scene desk_scene(scene: bytes, out: out_bytes) -> u64;
 }

@@ -1,6 +1,9 @@
 //! The safe face over the library itself. Nothing here passes without it: `oracle/ci` links target/staticlib/libexports.a on
 //! x86-64, and elsewhere the same module as `oracle/native` compiles it for that machine.
-use desk::{Arc, ArcRelation, Error, Loop, Place, Position, Refusal, Relation, Side, full_positions, raw};
+use desk::{
+    Arc, ArcRelation, Ending, Error, Loop, MOST_SCENE_BYTES, MOST_TEXT_BYTES, Place, Position, Refusal, Relation, Side,
+    full_positions, raw, scene,
+};
 
 const X: Position = [1.0, 0.0, 0.0];
 const Y: Position = [0.0, 1.0, 0.0];
@@ -133,7 +136,11 @@ fn errors_speak() {
     let e: Box<dyn std::error::Error> = Box::new(Loop::build(&[[2.0, 0.0, 0.0]]).unwrap_err());
     assert_eq!(e.to_string(), "refused 4: a position is not a unit vector");
     assert_eq!(Error::Absent.to_string(), "the desk's library is not linked, or it has no such export");
-    assert!((1..=9).map(|n| Refusal(n).words()).collect::<std::collections::BTreeSet<_>>().len() == 9);
+    assert_eq!(Error::Broken.to_string(), "the text is none of a scene");
+    let unknown = Refusal(0).words();
+    assert!((10..20).chain(29..40).all(|n| Refusal(n).words() == unknown));
+    let known: std::collections::BTreeSet<_> = (1..=9).chain(20..=28).map(|n| Refusal(n).words()).collect();
+    assert!(known.len() == 18 && !known.contains(unknown));
 }
 
 #[test]
@@ -151,4 +158,143 @@ fn arcs() {
     assert!(matches!(a.relate(&a).unwrap(), ArcRelation::Overlapping(_)));
     assert_eq!(a.relate(&Arc::new(Z, [0.0, -0.6, 0.8]).unwrap()).unwrap(), ArcRelation::Disjoint);
     refused(4, Arc::new(X, [0.0; 3]));
+}
+
+const NAN: Position = [f64::NAN, 0.0, 0.0];
+const FAR: Position = [2.0, 0.0, 0.0];
+
+fn record(kind: u16, body: &[u8]) -> Vec<u8> {
+    [&(body.len() as u32).to_le_bytes()[..], &kind.to_le_bytes(), body].concat()
+}
+
+fn area(number: u16, list: &[Position]) -> Vec<u8> {
+    let positions: Vec<u8> = list.iter().flatten().flat_map(|c| c.to_le_bytes()).collect();
+    record(1, &[&number.to_le_bytes()[..], &positions].concat())
+}
+
+fn pair(a: u16, b: u16) -> Vec<u8> {
+    record(3, &[a.to_le_bytes(), b.to_le_bytes()].concat())
+}
+
+/// A place has the form of an area with one position.
+fn place(number: u16, p: Position) -> Vec<u8> {
+    let mut r = area(number, &[p]);
+    r[4] = 2;
+    r
+}
+
+/// What is said of area 1 (80 bytes) and then of these records.
+fn after_one(records: &[u8]) -> String {
+    scene(&[&area(1, &[X, Y, Z])[..], records].concat()).unwrap()
+}
+
+#[test]
+fn a_scene_is_told() {
+    let text = scene(include_bytes!("../../../samples/axes.scene")).unwrap();
+    assert_eq!(text, include_str!("../../../samples/axes.txt"));
+    assert_eq!(Ending::read(&text).unwrap(), Ending::Ended { records: 5 });
+    let text = after_one(&[area(2, &[X, Y, W]), place(1, [0.48, 0.6, 0.64]), pair(2, 1)].concat());
+    let lines =
+        ["area 1 3 ring reversed steady 1", "area 2 3 ring kept steady 1", "place 1 inside", "pair 2 1 touching"];
+    assert_eq!(text, format!("{}\nend 4\n", lines.join("\n")));
+    assert_eq!(scene(&[]).unwrap(), "end 0\n");
+}
+
+/// Each number that a scene can end in, with its field, and its index where it has one.
+#[test]
+fn a_refused_scene_has_parts() {
+    let seven = [area(2, &[[-0.8, 0.0, -0.6], X, [0.64, -0.48, 0.6]]), area(3, &[[0.0, -1.0, 0.0], Z, X]), pair(2, 3)];
+    let areas: Vec<u8> = (2..=17).flat_map(|k| area(k, &[])).collect();
+    let parts = |number, record, field, index| Ending::Refused { refusal: Refusal(number), record, field, index };
+    for (records, ending) in [
+        (area(2, &[NAN; 513]), parts(2, 80, 86, None)),
+        (area(2, &[X, NAN, FAR]), parts(3, 80, 86, Some(1))),
+        (area(2, &[X, Y, FAR, NAN]), parts(4, 80, 86, Some(2))),
+        (place(1, NAN), parts(3, 80, 86, Some(0))),
+        (place(1, FAR), parts(4, 80, 86, Some(0))),
+        (seven.concat(), parts(7, 240, 246, None)),
+        (pair(1, 1)[..9].to_vec(), parts(20, 80, 89, None)),
+        (record(4, &[1, 0]), parts(21, 80, 84, None)),
+        (record(3, &[0; 3]), parts(22, 80, 80, None)),
+        (pair(9, 0), parts(23, 80, 88, None)),
+        (area(1, &[NAN]), parts(24, 80, 86, None)),
+        (pair(1, 9), parts(25, 80, 88, None)),
+        (areas, parts(26, 200, 206, None)),
+        (area(2, &[NAN; 1_022]), parts(27, 80, 80, None)),
+    ] {
+        let text = after_one(&records);
+        assert!(text.starts_with("area 1 3 ring reversed steady 1\n"), "{text}");
+        assert_eq!(Ending::read(&text).unwrap(), ending, "{text}");
+        assert!(text.ends_with(&format!("\n{ending}\n")), "{text}");
+    }
+    assert_eq!(after_one(&area(2, &[X, Y, FAR])).lines().last(), Some("refused 4 at 80 86 2"));
+}
+
+#[test]
+fn a_text_needs_room() {
+    let records = include_bytes!("../../../samples/axes.scene");
+    let text = scene(records).unwrap().into_bytes();
+    let mut out = vec![7; text.len() + 5];
+    let blank = out.clone();
+    assert_eq!(raw::desk_scene(records, &mut out[..text.len() - 1]), Some((1 << 32) + 5));
+    assert_eq!(raw::desk_scene(records, &mut []), Some((1 << 32) + 5));
+    assert_eq!(out, blank);
+    assert_eq!(raw::desk_scene(records, &mut out), Some(text.len() as u64));
+    assert_eq!((&out[..text.len()], &out[text.len()..]), (&text[..], &[7; 5][..]));
+    assert_eq!(raw::desk_scene(records, &mut out[..text.len()]), Some(text.len() as u64));
+}
+
+/// A text of more than 196,000 bytes; then one record is cut short at the last byte that a scene may have, then that is passed.
+#[test]
+fn the_longest_texts_fit() {
+    let (north, across) = (&SQUARE, &[[0.6, 0.8, 0.0], Z, [-0.6, -0.8, 0.0]]);
+    let mut records = [area(10_000, north), area(65_535, across)].concat();
+    let mut text = scene(&records).unwrap().replace("end 2\n", "");
+    let mut count = 2;
+    while records.len() + 10 <= MOST_SCENE_BYTES {
+        records.extend(pair(10_000, 65_535));
+        text.push_str("pair 10000 65535 intersecting\n");
+        count += 1;
+    }
+    text.push_str(&format!("end {count}\n"));
+    assert!(text.len() > 196_000 && text.len() <= MOST_TEXT_BYTES);
+    assert_eq!(scene(&records).unwrap(), text);
+    let cut = format!("refused 20 at {} 65536", records.len());
+    records.resize(MOST_SCENE_BYTES, 255);
+    assert_eq!(scene(&records).unwrap(), text.replace(&format!("end {count}"), &cut));
+    records.push(0);
+    assert_eq!(scene(&records).unwrap(), "refused 28 at 0 65536\n");
+}
+
+/// What is not the text of a scene is told so: nothing is guessed.
+#[test]
+fn broken_texts() {
+    let text = after_one(&area(2, &[X, FAR]));
+    assert!(text.ends_with("\nrefused 4 at 80 86 1\n"));
+    for line in [
+        "refused 4 at 80 86",
+        "refused 2 at 80 86 1",
+        "refused 24 at 80 86 1",
+        "refused 4 at 80 86 1 1",
+        "refused 4 at 80",
+        "refused 10 at 80 86",
+        "refused 5 at 80 86",
+        "refused 29 at 80 86",
+        "refused 4 in 80 86 1",
+        "refused 4 at 080 86 1",
+        "refused 4 at 80 +86 1",
+        "refused 4 at 80 86 ",
+        "refused 4 at 80  86 1",
+        "end",
+        "end -1",
+        "end 01",
+        "end 1 1",
+        "area 2 0 empty kept steady 0",
+        "",
+    ] {
+        let broken = text.replace("refused 4 at 80 86 1", line);
+        assert_eq!(Ending::read(&broken), Err(Error::Broken), "{line}");
+    }
+    assert_eq!(Ending::read(text.trim_end()), Err(Error::Broken));
+    assert_eq!(Ending::read(""), Err(Error::Broken));
 }

@@ -1,5 +1,5 @@
-//! Everything that is linked: the exports as `desk` has them, and what the host alone calls, the probes of the leaves and the
-//! stand-in's scene. `None` where it is not linked.
+//! Everything that is linked: the exports as `desk` has them, and what the host alone calls, the probes of the leaves. `None`
+//! where it is not linked.
 pub use desk::raw::*;
 
 macro_rules! probes {
@@ -29,6 +29,4 @@ probes! {
         (op: u32, input: &[f64]) (op, input.as_ptr(), input.len()) -> u32;
     has_leaf_cap leaf_cap [l: *const f64, n: usize, o: *mut f64, m: usize]
         (list: &[f64], out: &mut [f64]) (list.as_ptr(), list.len(), out.as_mut_ptr(), out.len()) -> u32;
-    has_desk_scene desk_scene [i: *const u8, n: usize, o: *mut u8, m: usize]
-        (input: &[u8], out: &mut [u8]) (input.as_ptr(), input.len(), out.as_mut_ptr(), out.len()) -> u32;
 }

@@ -12,7 +12,9 @@ mod pairs;
 mod port;
 mod random;
 mod record;
+mod records;
 mod rings;
+mod samples;
 mod scenes;
 mod shapes;
 mod tally;
@@ -28,6 +30,7 @@ const USAGE: &str = "\
 host constants                   the numbers that the port records
 host compare GROUP [N] [SEED]    N inputs of a group (or all) to both sides; exit status 1 on a difference
 host compare turns [N] [SEED]    among them: angles and the directions of steady loops, beside exact angles in whole numbers
+host compare samples [N] [SEED]  among them: the stored scenes, cut and damaged at every byte; N of these spread evenly, or all where N is 0
 host groups                      the groups whose exports are there
 host record FILE [N]             about N recorded answers an export, for the program `test_replay`
 host rings INPUT OUTPUT          the samples of the program `test_cuts`, and what the source says of them
@@ -38,7 +41,7 @@ host bench                       nanoseconds of both and their ratio
 host repeat WHO WHAT SHAPE N TIMES   one call over and over, for a profile (ours or rust; star or convex)";
 
 /// The groups, with the exports that they need one of.
-const GROUPS: [(&str, &[Export]); 13] = [
+const GROUPS: [(&str, &[Export]); 14] = [
     ("root", &[Export::Root]),
     ("atan", &[Export::Atan2]),
     ("leaves", &[Export::LeafVec, Export::LeafNumber, Export::LeafCase, Export::LeafCap]),
@@ -62,6 +65,7 @@ const GROUPS: [(&str, &[Export]); 13] = [
     ("questions", &[Export::Convex, Export::Simple, Export::Vertex, Export::OnEdge, Export::Equivalent]),
     ("pair", &[Export::Pair, Export::PairF64]),
     ("scene", &[Export::Scene]),
+    ("samples", &[Export::Scene]),
 ];
 
 /// The repository's root: DESK_ROOT, or the folder above this crate's workspace.
@@ -112,13 +116,14 @@ fn feed(group: &str, t: &mut Tally, r: &mut Random, n: usize) {
         "accepts" => rings::accepts(t, r, n),
         "questions" => rings::questions(t, r, n),
         "pair" => pairs::pair(t, r, n),
+        "samples" => samples::samples(t, r, n, &root(), open),
         _ => scenes::scenes(t, r, n, &root()),
     }
 }
 
 fn record(file: &str, wanted: usize) {
     let mut calls = Vec::new();
-    for (group, _) in GROUPS.iter().filter(|g| !["scene", "leaves", "caps", "turns"].contains(&g.0)) {
+    for (group, _) in GROUPS.iter().filter(|g| !["scene", "samples", "leaves", "caps", "turns"].contains(&g.0)) {
         let mut t = Tally::only_filled();
         feed(group, &mut t, &mut Random::new(1), wanted * 4);
         calls.extend(t.drain());

@@ -82,10 +82,9 @@ fn noticed(oracle: &Path, room: &Path, m: &Mutant) -> bool {
     assert!(text.contains(&m.old), "{}: its lines are not in {}", m.name, m.file);
     std::fs::write(&file, text.replacen(&m.old, &m.new, 1)).unwrap();
     cargo(&work, &room.join("target"));
-    let n = if m.group == "scene" { "400" } else { "3000" };
     let own = std::env::current_exe().unwrap();
     let run = Command::new(own)
-        .args(["compare", &m.group, n, "1"])
+        .args(["compare", &m.group, "3000", "1"])
         .env("DESK_STUB", room.join("target/mutant/host"))
         .output()
         .unwrap();

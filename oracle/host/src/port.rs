@@ -194,7 +194,7 @@ fn decode(c: &Call, head: &(usize, Vec<(usize, usize)>), sent: &[u8], back: &[u8
             outs.push(back[*start..start + size].to_vec());
         }
     }
-    let value = if matches!(c.export, Export::Root | Export::Atan2 | Export::LeafNumber) {
+    let value = if matches!(c.export, Export::Root | Export::Atan2 | Export::LeafNumber | Export::Scene) {
         word(1)
     } else {
         // The answer is 32 bits wide; what the register holds above it says nothing.

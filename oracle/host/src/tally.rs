@@ -10,7 +10,7 @@ const BATCH: usize = 1 << 20;
 
 pub struct Tally {
     port: Option<Port>,
-    waiting: Vec<(Call, String)>,
+    waiting: Vec<Waiting>,
     size: usize,
     pub kinds: BTreeMap<String, u64>,
     pub notes: BTreeMap<String, u64>,
@@ -19,9 +19,19 @@ pub struct Tally {
     differing: BTreeMap<String, u64>,
     pub farthest: f64,
     most: BTreeMap<String, f64>,
+    /// What a group adds to its report, line by line.
+    pub lines: Vec<String>,
+}
+
+/// A call that is yet to be put: with a word on where it came from, and what the model says, where that is known already.
+struct Waiting {
+    call: Call,
+    from: String,
+    expected: Option<Answer>,
 }
 
 const REFUSED: u64 = 65_536;
+const SIZE_REFUSED: u64 = 1 << 32;
 
 fn kind_of(call: &Call, a: &Answer) -> String {
     let name = format!("{:?}", call.export);
@@ -29,6 +39,7 @@ fn kind_of(call: &Call, a: &Answer) -> String {
         Export::Root | Export::Atan2 => name,
         Export::LeafVec | Export::LeafNumber => format!("{name} {}", call.args[0].word()),
         Export::LeafCase => format!("{name} {} = {}", call.args[0].word(), a.value),
+        Export::Scene if a.value >= SIZE_REFUSED => format!("{name} refused {}", a.value - SIZE_REFUSED),
         Export::Scene => name,
         _ if a.value >= REFUSED => format!("{name} refused {}", a.value - REFUSED),
         Export::Build | Export::BuildF64 => format!("{name} {}", header_kind(&a.outs[0])),
@@ -143,6 +154,24 @@ impl Tally {
             differing: BTreeMap::new(),
             farthest: 0.0,
             most: BTreeMap::new(),
+            lines: Vec::new(),
+        }
+    }
+
+    /// Takes in what another one has counted.
+    pub fn take_in(&mut self, mut other: Tally) {
+        other.flush();
+        let mine = [&mut self.kinds, &mut self.notes, &mut self.differing];
+        for (mine, others) in mine.into_iter().zip([&other.kinds, &other.notes, &other.differing]) {
+            for (k, n) in others {
+                *mine.entry(k.clone()).or_default() += n;
+            }
+        }
+        self.compared += other.compared;
+        self.differences += other.differences;
+        self.farthest = self.farthest.max(other.farthest);
+        for (what, size) in &other.most {
+            self.keep_most(what, *size);
         }
     }
 
@@ -157,7 +186,7 @@ impl Tally {
 
     /// The calls gathered so far.
     pub fn drain(&mut self) -> Vec<Call> {
-        std::mem::take(&mut self.waiting).into_iter().map(|w| w.0).collect()
+        std::mem::take(&mut self.waiting).into_iter().map(|w| w.call).collect()
     }
 
     /// Counts something that is worth knowing of the inputs.
@@ -179,8 +208,17 @@ impl Tally {
 
     /// A call, with a word on where it came from, for a difference's report.
     pub fn put_as(&mut self, export: Export, args: Vec<Arg>, from: &str) {
-        self.size += 64 + args.iter().map(|a| a.bytes().map_or(8, |b| b.len())).sum::<usize>();
-        self.waiting.push((Call { export, args }, from.to_string()));
+        self.wait(Waiting { call: Call { export, args }, from: from.to_string(), expected: None });
+    }
+
+    /// A call of which the model's answer is known already.
+    pub fn put_known(&mut self, call: Call, expected: Answer) {
+        self.wait(Waiting { call, from: String::new(), expected: Some(expected) });
+    }
+
+    fn wait(&mut self, w: Waiting) {
+        self.size += 64 + w.call.args.iter().map(|a| a.bytes().map_or(8, |b| b.len())).sum::<usize>();
+        self.waiting.push(w);
         if self.size > BATCH && self.port.is_some() {
             self.flush();
         }
@@ -190,8 +228,15 @@ impl Tally {
         if self.port.is_some() {
             let waiting = std::mem::take(&mut self.waiting);
             self.size = 0;
-            let (calls, from): (Vec<Call>, Vec<String>) = waiting.into_iter().unzip();
-            self.ask(&calls, &from);
+            let (calls, rest): (Vec<Call>, Vec<_>) =
+                waiting.into_iter().map(|w| (w.call, (w.from, w.expected))).unzip();
+            let answers = self.port.as_mut().expect("a port to ask").run(&calls);
+            for ((call, (from, expected)), port) in calls.iter().zip(rest).zip(answers) {
+                if let Some(port) = port {
+                    let ours = expected.unwrap_or_else(|| by_model(call));
+                    self.compare(call, &from, &ours, &port);
+                }
+            }
         }
     }
 
@@ -201,19 +246,18 @@ impl Tally {
         let answers = self.port.as_mut().expect("a port to ask").run(calls);
         for ((call, from), port) in calls.iter().zip(from).zip(&answers) {
             if let Some(port) = port {
-                self.compare(call, from, port);
+                self.compare(call, from, &by_model(call), port);
             }
         }
         answers
     }
 
-    fn compare(&mut self, call: &Call, from: &str, port: &Answer) {
-        let ours = by_model(call);
+    fn compare(&mut self, call: &Call, from: &str, ours: &Answer, port: &Answer) {
         self.compared += 1;
-        *self.kinds.entry(kind_of(call, &ours)).or_default() += 1;
+        *self.kinds.entry(kind_of(call, ours)).or_default() += 1;
         self.measure(call, port);
-        if !same(call, &ours, port) {
-            self.differ(call, from, &ours, port);
+        if !same(call, ours, port) {
+            self.differ(call, from, ours, port);
         }
     }
 
@@ -251,11 +295,12 @@ impl Tally {
         }
     }
 
-    pub fn differ(&mut self, call: &Call, from: &str, ours: &Answer, port: &Answer) {
+    /// Counts a difference; returns whether it is one of the first, which are printed whole.
+    pub fn differ(&mut self, call: &Call, from: &str, ours: &Answer, port: &Answer) -> bool {
         self.differences += 1;
         *self.differing.entry(kind_of(call, ours)).or_default() += 1;
         if self.differences > SHOWN {
-            return;
+            return false;
         }
         println!("DIFFERENCE {} in {:?} {from}", self.differences, call.export);
         for a in &call.args {
@@ -269,6 +314,7 @@ impl Tally {
                 println!("  output {i} differs from byte {at} on: expected {x:02X?}, got {y:02X?}");
             }
         }
+        true
     }
 
     /// Prints the counts; returns whether all was the same.
@@ -278,6 +324,9 @@ impl Tally {
         for (k, n) in &self.kinds {
             let off = self.differing.get(k).map_or(String::new(), |d| format!(" ({d} DIFFER)"));
             println!("  {k}: {n}{off}");
+        }
+        for line in &self.lines {
+            println!("  {line}");
         }
         for (k, n) in &self.notes {
             println!("  ({k}: {n})");

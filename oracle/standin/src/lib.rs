@@ -63,7 +63,7 @@ stand! {
     leaf_number [op: u32, a: F, n: N] (op, lent(a, n)) -> u64;
     leaf_case [op: u32, a: F, n: N] (op, lent(a, n)) -> u32;
     leaf_cap [a: F, n: N, o: OF, m: N] (lent(a, n), lent_mut(o, m)) -> u32;
-    desk_scene [a: B, n: N, o: OB, m: N] (lent(a, n), lent_mut(o, m)) -> u32;
+    desk_scene [a: B, n: N, o: OB, m: N] (lent(a, n), lent_mut(o, m)) -> u64;
 }
 
 /// Tells the stand-in from the port.

@@ -1,28 +1,22 @@
-use native.Mathlib.Omega.{arith}
-use Rattle.laws.proofs.Kit.{kit}
-use Rattle.judge.specs.Judge.{positionFault, positionsFault}
-use Rattle.laws.proofs.Loops.{Seek, seek, seek-on, seek-found}
-use mathlib.Core.Path.{refl}
-use Prim.Native.Nat.{_-_}
+-- The first position that is refused has the number; where there is none it is 0.
+use mathlib.Core.Path.{ap, _∙_}
+use borrow.Author.Needs.{needs}
+use Rattle.judge.specs.Judge.{faultOf}
+use Rattle.judge.proofs.Refused.{none-refused, one-refused}
 use Rattle.judge.proofs.positions_fault.Statement.{statement}
 use Rattle.judge.proofs.positions_fault.Tie as tie
 
-abbrev Inv-loop : tie.InvT-loop
-Inv-loop ps n i₀ i = Seek (positionFault ps) n i (positionsFault ps n)
-
-abbrev μ-loop : tie.MeasureT-loop
-μ-loop ps n i₀ i = n - i
+returns-number : tie.Need-returns-2
+returns-number c =
+    let found = c .before .before in
+    one-refused _ _ (found .before .first-refused .ensures .0) (found .if1 .left) (c .fault .ensures ∙ ap faultOf (c .before .at .ensures))
 
 pub positions-fault-spec : {M : Type 1} → statement M
 positions-fault-spec =
     tie.close
     (tie.spec
-    Inv-loop μ-loop
-    (λ c. seek refl)
-    (λ c κs. search kit)
-    (λ c κs. search kit)
-    (λ c. seek-found (c .before .before .before .before .loop .inv) (cc) (omega arith) (c .if1 .taken))
-    (λ c. search kit)
-    (λ c. search kit)
-    (λ c. seek-on (c .before .before .before .before .loop .inv) (cc) (omega arith) (c .if1 .left))
-    (λ c. search kit))
+    (λ c κs. search needs)
+    (λ c. none-refused _ _ (c .before .first-refused .ensures .0) (c .if1 .taken))
+    (λ c κs. search needs)
+    (λ c κs. search needs)
+    returns-number)

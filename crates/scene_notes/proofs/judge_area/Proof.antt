@@ -12,7 +12,7 @@ returns-repeated c =
     let looked = c .before .before in
     let numbered = looked .before in
     let number = ne-eqb _ _ (numbered .if1 .left) in
-    let count = met-count _ (numbered .before .pre .0) in
+    let count = met-count _ (numbered .before .before .pre .0) in
     simp (number, ← looked .index-of .ensures .0, count, lt-ltb _ _ (c .if2 .taken))
 
 returns-many-areas : tie.Need-returns-3
@@ -22,7 +22,7 @@ returns-many-areas c =
     let looked = new .before .before in
     let numbered = looked .before in
     let number = ne-eqb _ _ (numbered .if1 .left) in
-    let count = met-count _ (numbered .before .pre .0) in
+    let count = met-count _ (numbered .before .before .pre .0) in
     simp (number, ← looked .index-of .ensures .0, count, le-ltb _ _ (new .if2 .left), le-leb _ _ (c .if3 .taken))
 
 returns-many-positions : tie.Need-returns-4
@@ -33,7 +33,7 @@ returns-many-positions c =
     let looked = new .before .before in
     let numbered = looked .before in
     let number = ne-eqb _ _ (numbered .if1 .left) in
-    let count = met-count _ (numbered .before .pre .0) in
+    let count = met-count _ (numbered .before .before .pre .0) in
     simp (number, ← looked .index-of .ensures .0, count, le-ltb _ _ (new .if2 .left), lt-leb _ _ (few .if3 .left), lt-ltb _ _ (c .if4 .taken))
 
 returns-fine : tie.Need-returns-5
@@ -44,7 +44,7 @@ returns-fine c =
     let looked = new .before .before in
     let numbered = looked .before in
     let number = ne-eqb _ _ (numbered .if1 .left) in
-    let count = met-count _ (numbered .before .pre .0) in
+    let count = met-count _ (numbered .before .before .pre .0) in
     simp (number, ← looked .index-of .ensures .0, count, le-ltb _ _ (new .if2 .left), lt-leb _ _ (few .if3 .left), le-ltb _ _ (c .if4 .left))
 
 pub judge-area-spec : {M : Type 1} → statement M
@@ -52,6 +52,7 @@ unfolding judgeArea
 judge-area-spec =
     tie.close
     (tie.spec
+    (λ c. search needs)
     (λ c. simp (eq-eqb _ _ (c .if1 .taken)))
     (λ c κs. search needs)
     returns-repeated

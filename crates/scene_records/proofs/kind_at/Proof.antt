@@ -15,4 +15,5 @@ kind-at-spec =
     (λ c. simp (← c .before .before .before .number-at .ensures, ne-eqb _ _ (c .before .before .if1 .left), eq-eqb _ _ (c .before .if2 .taken), c .place-at .ensures))
     (λ c κs. search needs)
     (λ c. simp (← c .before .before .before .before .number-at .ensures, ne-eqb _ _ (c .before .before .before .if1 .left), ne-eqb _ _ (c .before .before .if2 .left), eq-eqb _ _ (c .before .if3 .taken), c .pair-at .ensures))
+    (λ c. search needs)
     (λ c. simp (← c .before .before .before .number-at .ensures, ne-eqb _ _ (c .before .before .if1 .left), ne-eqb _ _ (c .before .if2 .left), ne-eqb _ _ (c .if3 .left))))

@@ -12,7 +12,7 @@ returns-refused : tie.Need-returns
 returns-refused c =
     let at-put = c .before .before in
     let put = at-put .put-line .ensures in
-    (too-many _ (at-put .before .before .if1 .taken) (put .0), omega (arith, put .1, longest (Line.Refused 10 0)))
+    (too-many _ (at-put .before .before .if1 .taken) (put .0), omega (arith, put .1, longest (Line.Refused 28 0 65536)))
 
 returns-run : tie.Need-returns-2
 unfolding blankFloats blankCodes

@@ -18,11 +18,17 @@ area-line-requires c κs =
       addable _ _ (given .0) (given .1) built header,
     )
 
-returns-refused : tie.Need-returns
-returns-refused c =
+refusal-requires : tie.Need-refusal-requires
+refusal-requires c κs =
     let at-build = c .before .before .before .before .before .before .before .before .before in
     let given = at-build .before .before .before .before .before .before .before .before .before .pre in
-    area-refused _ _ (given .0) (given .1) (at-build .build-area .ensures) (c .before .k .given .1)
+    (given .0 .good .small, room _ _ (given .0) (given .1) .0, given .0 .whole)
+
+returns-refused : tie.Need-returns
+returns-refused c =
+    let at-build = c .before .before .before .before .before .before .before .before .before .before in
+    let given = at-build .before .before .before .before .before .before .before .before .before .pre in
+    area-refused _ _ (given .0) (given .1) (at-build .build-area .ensures) (c .before .before .k .given .1) (c .refusal .ensures)
 
 returns-looped : tie.Need-returns-2
 returns-looped c =
@@ -39,7 +45,9 @@ area-made-spec =
     (tie.spec
     (λ c. search needs)
     build-area-requires
-    (λ c. search needs) (λ c. search needs)
+    (λ c. search needs)
+    refusal-requires
+    (λ c. search needs)
     area-line-requires
     (λ c. search needs) (λ c. search needs) (λ c. search needs)
     returns-refused

@@ -1,40 +1,37 @@
--- The number is looked up among the areas met: where it is missing that is the fault, else the point's answer is told and the record passed.
-use Rattle.scene_steps.proofs.Steps.{area-lies, passable, place-missing, place-met}
+-- The number is looked up and judged first: a fault ends the step, and one that was met goes on as `place_met`.
+use Rattle.scene_steps.proofs.Steps.{place-bad, place-below, place-fine}
 use borrow.Author.Needs.{needs}
 use Rattle.scene_steps.proofs.place_step.Statement.{statement}
 use Rattle.scene_steps.proofs.place_step.Tie as tie
 
-returns-missing : tie.Need-returns
-returns-missing c =
-    let looked = c .before .before in
-    let ready = looked .before .before .before .before .before .pre in
-    place-missing ready _ (looked .index-of .ensures .0) (c .if1 .taken)
+-- where the number was looked up, ahead of its judgement
+abbrev looked : tie.After-judge-numbers → tie.After-index-of
+looked c = c .before .before .before
 
-place-in-requires : tie.Need-place-in-requires
-place-in-requires c κs =
-    let area = c .before .before in
-    let met = area .before in
-    area-lies (met .before .before .before .before .before .before .before .pre) (met .if1 .left) (area .area-of .ensures)
+place-met-requires : tie.Need-place-met-requires
+place-met-requires c κs =
+    let judged = c .before .before in
+    let index = looked judged .index-of .ensures .0 in
+    let ready = looked judged .before .before .before .before .before .pre in
+    (ready, index, place-below ready _ index (judged .judge-numbers .ensures) (c .enum-told .given .1))
 
-returns-met : tie.Need-returns-2
-returns-met c =
-    let asked = c .before .before in
-    let point = asked .before in
-    let area = point .before .before in
-    let met = area .before in
-    let looked = met .before .before in
-    let ready = looked .before .before .before .before .before .pre in
-    place-met ready _ (looked .index-of .ensures .0) (met .if1 .left)
-    (area .area-of .ensures) (point .vec-at .ensures) (asked .place-in .ensures) (c .before .place-told .ensures) (c .passed .ensures)
+returns-bad : tie.Need-returns
+returns-bad c =
+    let judged = c .before .before .before in
+    let index = looked judged .index-of .ensures .0 in
+    place-bad (looked judged .before .before .before .before .before .pre) _ index (judged .judge-numbers .ensures) (c .before .f .given .1)
+
+returns-fine : tie.Need-returns-2
+returns-fine c =
+    let judged = c .before .before .before in
+    let index = looked judged .index-of .ensures .0 in
+    place-fine (looked judged .before .before .before .before .before .pre) _ index (judged .judge-numbers .ensures) (c .before .enum-told .given .1) (c .place-met .ensures)
 
 pub place-step-spec : {M : Type 1} → statement M
 place-step-spec =
     tie.close
     (tie.spec
-    (λ c κs. search needs)
-    returns-missing
-    (λ c κs. search needs) (λ c. search needs) (λ c κs. search needs)
-    place-in-requires
-    (λ c κs. search needs)
-    (λ c κs. passable (c .before .before .before .before .before .before .before .before .before .before .before .before .pre))
-    returns-met)
+    (λ c κs. search needs) (λ c. search needs) (λ c. search needs) (λ c κs. search needs) (λ c. search needs) (λ c. search needs)
+    place-met-requires
+    returns-bad
+    returns-fine)

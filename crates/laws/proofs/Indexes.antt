@@ -1,10 +1,12 @@
--- The first index that has a property: it has it, and none before it has. Assumes nothing.
+-- The first index that has a property: it has it, and none before it has. The first number that is not 0 stands at the first index that has one. Assumes nothing.
 use Prim.Native.Nat.{ℕ, zero, suc, _+_, _≤_, _<_}
 use mathlib.Core.Path.{_≡_, refl, sym, _∙_}
-use mathlib.Core.Bool.{Bool, true, false, true≢false}
+use mathlib.Core.Bool.{Bool, true, false, cond, true≢false}
 use native.Mathlib.Decide.{decLt}
 use native.Mathlib.Omega.{arith}
-use Rattle.laws.specs.Loop.{firstAt}
+use lib.Dec.{ltb}
+use borrow.Author.Tests.{lt-ltb, le-ltb}
+use Rattle.laws.specs.Loop.{firstOf, firstAt}
 
 module _ (p : ℕ → Bool) where
   step-yes : (k i : ℕ) → p i ≡ true → firstAt p (suc k) i ≡ i
@@ -52,3 +54,27 @@ module _ (p : ℕ → Bool) where
       go false e (no m) on =
           let q : j ≡ i = omega arith in
           absurd (true≢false (sym t ∙ rw q e))
+
+-- ---- the first of many numbers that is not 0
+module _ (f : ℕ → ℕ) where
+  abbrev given : ℕ → Bool
+  given j = ltb 0 (f j)
+
+  -- the number at an index below m, 0 where there is none
+  abbrev below : ℕ → ℕ → ℕ
+  below m j = cond (ltb j m) (f j) 0
+
+  pub firstOf-at : (k i : ℕ) → firstOf f k i ≡ below (i + k) (firstAt given k i)
+  unfolding firstOf
+  firstOf-at zero i =
+      let e : i + 0 ≤ firstAt given 0 i = omega (arith, past given i) in
+      rw (le-ltb _ _ e)
+  firstOf-at (suc k) i = go (f i) refl (firstOf-at k (suc i))
+    where
+      go : (n : ℕ) → f i ≡ n → firstOf f k (suc i) ≡ below (suc i + k) (firstAt given k (suc i)) → firstOf f (suc k) i ≡ below (i + suc k) (firstAt given (suc k) i)
+      go zero e on =
+          let q : i + suc k ≡ suc i + k = omega arith in
+          rw (e, step-no given k i (rw e), q) on
+      go (suc n) e on =
+          let h : i < i + suc k = omega arith in
+          rw (step-yes given k i (rw e (lt-ltb 0 (suc n) (omega arith))), lt-ltb _ _ h, e)

@@ -203,8 +203,18 @@ static void longest(void) {
     HOLD(desk_scene(scene, DESK_MOST_SCENE_BYTES, text, DESK_MOST_TEXT_BYTES), n);
     HOLD(last(n, "end 6526\n"), 1);
     HOLD(desk_scene(scene, DESK_MOST_SCENE_BYTES, text, n - 1), DESK_REFUSED_SIZE_ROOM);
-    HOLD(desk_scene(scene, DESK_MOST_SCENE_BYTES + 1u, text, DESK_MOST_TEXT_BYTES) < 40u, 1);
-    HOLD(memcmp(text, "refused ", 8), 0);
+    HOLD(desk_scene(scene, DESK_MOST_SCENE_BYTES + 1u, text, DESK_MOST_TEXT_BYTES), 22);
+    HOLD(last(22, "refused 28 at 0 65536\n"), 1);
+}
+
+/* What a refused scene's text ends in: a record that is cut short, a number that no area has, and a list whose second position is no unit vector. */
+static void refused_scenes(void) {
+    static const double far[] = {1, 0, 0, 2, 0, 0};
+    const size_t size = put(0, 1, 1, 0, octant, 3);
+    HOLD(desk_scene(scene, size - 1, text, sizeof text), 19);
+    HOLD(last(19, "refused 20 at 0 79\n"), 1);
+    HOLD(last(desk_scene(scene, put(size, 3, 1, 2, NULL, 0), text, sizeof text), "refused 25 at 80 88\n"), 1);
+    HOLD(last(desk_scene(scene, put(size, 1, 2, 0, far, 2), text, sizeof text), "refused 4 at 80 86 1\n"), 1);
 }
 
 static void scenes(void) {
@@ -223,6 +233,7 @@ static void scenes(void) {
     HOLD(memcmp(text, lines, n), 0);
     HOLD(desk_scene(scene, size, text, sizeof text), n);
     HOLD(text[n], 'x'); /* what lies past the text stays */
+    refused_scenes();
     longest();
 }
 

@@ -43,7 +43,7 @@
    `refused NUMBER at RECORD FIELD`, with the offsets of the record and of the field that it is refused for; for 3 and 4
    also with the INDEX of the position in its list. A text whose last line is neither is broken output: take nothing from
    it. NUMBER is a call's own (2, 3, 4, 7) or one that a scene's text alone has: 20 the record is cut short, 21 its kind
-   is unknown, 22 its length is wrong for its kind, 23 the area's number is zero, 24 an area before has that number,
+   is unknown, 22 its length is wrong for its kind, 23 an area number is zero, 24 an area before has that number,
    25 no area before has it, 26 too many areas, 27 too many positions, 28 more than DESK_MOST_SCENE_BYTES.
    docs/REFUSALS.md has the table. */
 #ifndef DESK_H

@@ -184,10 +184,10 @@ static void run(const uint8_t *scene, size_t size, size_t room) {
     tell((const char *)text + from);
 }
 
-/* The worked example of the scene program: both areas, two places in the first, and the pair. */
+/* The worked example of the scene program: both areas, two places in the first, and the pair; then the first area and one whose last position is no unit vector. */
 static void run_example(const double *first, const double *second) {
     static const unsigned areas[] = {1, 2};
-    static const double inside[] = {0.48, 0.6, 0.64}, outside[] = {0.6, 0, 0.8};
+    static const double inside[] = {0.48, 0.6, 0.64}, outside[] = {0.6, 0, 0.8}, far[] = {1, 0, 0, 0, 1, 0, 0, 0, 2};
     uint8_t scene[256];
     size_t n = put_record(scene, AREA, areas, 1, first, 3);
     n += put_record(scene + n, AREA, areas + 1, 1, second, 3);
@@ -196,6 +196,9 @@ static void run_example(const double *first, const double *second) {
     n += put_record(scene + n, PAIR, areas, 2, NULL, 0);
     run(scene, n, DESK_MOST_TEXT_BYTES);
     run(scene, n, 0);
+    n = put_record(scene, AREA, areas, 1, first, 3);
+    n += put_record(scene + n, AREA, areas + 1, 1, far, 3);
+    run(scene, n, DESK_MOST_TEXT_BYTES);
 }
 
 int main(void) {

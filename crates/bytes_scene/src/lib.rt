@@ -5,6 +5,9 @@ ghost use lib.ListN.{length};
 ghost use Rattle.bytes_loop.specs.Outcome.{outcome};
 ghost use Rattle.bytes_scene.specs.Scene as Sc;
 
+// Refusal 5 where a size is answered: 2^32 plus its number.
+const NO_ROOM: u64 = 4294967301;
+
 // How many bytes of a text are written: none where it does not fit.
 fn fitting(size: usize, room: usize) -> usize
     ensures { λ r. ⌜ r ≡ Sc.fitting size room ⌝ }
@@ -17,7 +20,7 @@ fn fitting(size: usize, room: usize) -> usize
 fn size_answer(size: usize, room: usize) -> u64
     ensures { λ r. ⌜ r ≡ Sc.sizeAnswer size room ⌝ }
 {
-    if room < size { 4294967301 } else { size as u64 }
+    if room < size { NO_ROOM } else { size as u64 }
 }
 
 // Runs a scene, and answers how many bytes its text has. What is written and what is answered is chosen first, so that one call is lent `out`.

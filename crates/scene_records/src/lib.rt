@@ -125,6 +125,7 @@ pub fn read_at(s: &[u8], at: usize) -> Read
     kind_at(s, at, len)
 }
 
+// The index of the first position refused, through a lent list of their exact size.
 fn first_refused_of(s: &[u8], at: usize, list: &mut [f64], count: usize) -> usize
     requires { ⌜ (length (now list) ≡ 3 * count) × (at + 24 * count ≤ length (now s)) ⌝ }
     ensures { λ r. ⌜ r ≡ firstRefused (R.floatsAt (now (s .entry)) at count) count ⌝ }
@@ -134,7 +135,7 @@ fn first_refused_of(s: &[u8], at: usize, list: &mut [f64], count: usize) -> usiz
     judge::first_refused(list, count)
 }
 
-// The index of the first of `count` positions from an offset on that is refused, `count` where none is.
+// The same of `count` positions from an offset on, `count` where none is refused.
 pub fn first_refused(s: &[u8], at: usize, count: usize) -> usize
     requires { ⌜ (count ≤ 1024) × (at + 24 * count ≤ length (now s)) ⌝ }
     ensures { λ r. ⌜ r ≡ firstRefused (R.floatsAt (now (s .entry)) at count) count ⌝ }

@@ -39,37 +39,54 @@ fieldOf (refused k) = 0
 fieldOf (refusedAt k index) = 0
 fieldOf (wrote line next) = 0
 
+-- ---- what a scene is computed with: a record as it is read, the numbers that a pair names, an area as it is judged, and a list that is refused
+unfoldable of-reading : ℕ
+unfolding sceneText sceneTold toldFrom textOf step readAt kindAt
+of-reading = 0
+
+unfoldable of-naming : ℕ
+unfolding of-reading pairAt pairStep judgeNumbers firstZero firstAt indexOf
+of-naming = 0
+
+unfoldable of-areas : ℕ
+unfolding of-reading areaAt areaStep judgeArea firstAt indexOf
+of-areas = 0
+
+unfoldable of-lists : ℕ
+unfolding of-areas areaMade builtAt buildOutcome Build.refusal listFault firstOf faultOf vectorFault refusal firstRefused floatsAt flat u64Of ofBits add mul le
+of-lists = 0
+
 -- ---- what each scene comes to
 pair-9-0 : sceneText (pairOf 9 0) ≡ refusedLine 23 0 8
-unfolding sceneText sceneTold toldFrom textOf step readAt kindAt pairAt pairStep judgeNumbers firstZero firstAt indexOf
+unfolding of-naming
 pair-9-0 = refl
 
 pair-9-8 : sceneText (pairOf 9 8) ≡ refusedLine 25 0 6
-unfolding sceneText sceneTold toldFrom textOf step readAt kindAt pairAt pairStep judgeNumbers firstZero firstAt indexOf
+unfolding of-naming
 pair-9-8 = refl
 
 one-byte : sceneText (0 ∷ []) ≡ refusedLine 20 0 1
-unfolding sceneText sceneTold toldFrom textOf step readAt
+unfolding of-reading
 one-byte = refl
 
 short-9 : sceneText shortOfKind9 ≡ refusedLine 20 0 6
-unfolding sceneText sceneTold toldFrom textOf step readAt
+unfolding of-reading
 short-9 = refl
 
 seventeenth : step emptyArea sixteen ≡ faulty Repeated 6
-unfolding step readAt kindAt areaAt areaStep judgeArea indexOf firstAt
+unfolding of-areas
 seventeenth = refl
 
 one-more : step areaOfOne allGiven ≡ faulty ManyPositions 0
-unfolding step readAt kindAt areaAt areaStep judgeArea indexOf firstAt
+unfolding of-areas
 one-more = refl
 
 x-nan : sceneText (areaOfTwo xBytes nanBytes) ≡ refusedAtLine 3 0 6 1
-unfolding sceneText sceneTold toldFrom textOf step readAt kindAt areaAt areaStep judgeArea indexOf firstAt areaMade builtAt buildOutcome Build.refusal listFault firstOf faultOf vectorFault refusal firstRefused floatsAt flat u64Of ofBits add mul le
+unfolding of-lists
 x-nan = refl
 
 nan-nan : sceneText (areaOfTwo nanBytes nanBytes) ≡ refusedAtLine 3 0 6 0
-unfolding sceneText sceneTold toldFrom textOf step readAt kindAt areaAt areaStep judgeArea indexOf firstAt areaMade builtAt buildOutcome Build.refusal listFault firstOf faultOf vectorFault refusal firstRefused floatsAt flat u64Of ofBits add mul le
+unfolding of-lists
 nan-nan = refl
 
 too-long : (s : List ℕ) → 65536 < length s → sceneText s ≡ refusedLine 28 0 65536

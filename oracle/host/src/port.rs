@@ -34,9 +34,9 @@ fn is_x86(program: &Path) -> bool {
 }
 
 impl Port {
-    /// The linked library where it has anything, else the stub at `stub`.
+    /// The linked library where it has anything and no stub is named by DESK_STUB, as a wrong program is; else the stub at `stub`.
     pub fn open(stub: &Path) -> Option<Port> {
-        if linked() {
+        if linked() && std::env::var_os("DESK_STUB").is_none() {
             return Some(Port::Linked);
         }
         if !stub.is_file() {

@@ -2,7 +2,7 @@
 use mathlib.Core.Path.{sym}
 use native.Mathlib.Omega.{arith}
 use lib.Seq.{length-take-le}
-use Rattle.bytes_scene.proofs.Texts.{left}
+use Rattle.bytes_scene.proofs.Texts.{all-or-nothing}
 use borrow.Author.Needs.{needs}
 use Rattle.bytes_scene.proofs.scene.Statement.{statement}
 use Rattle.bytes_scene.proofs.scene.Tie as tie
@@ -26,7 +26,7 @@ returns c =
     let fit = put .before .before .before in
     let answer = fit .before in
     let ran = answer .before .before in
-    left _ _ _ (ran .run .ensures .0) (omega (arith, ran .run .ensures .1, ran .before .before .room .ensures)) (answer .size-answer .ensures) (fit .fitting .ensures .0) (put .put-bytes .ensures)
+    all-or-nothing _ _ _ (ran .run .ensures .0) (omega (arith, ran .run .ensures .1, ran .before .before .room .ensures)) (answer .size-answer .ensures) (fit .fitting .ensures .0) (put .put-bytes .ensures)
 
 pub scene-spec : {M : Type 1} → statement M
 scene-spec =

@@ -83,6 +83,18 @@ fault-small NotMet = omega arith
 fault-small ManyAreas = omega arith
 fault-small ManyPositions = omega arith
 
+-- what holds ahead of the first record
+pub good-start : (s : List ℕ) → length s ≤ 65536 → Good s (starting blankFloats blankFloats blankCodes)
+good-start s h = record {
+  small = h;
+  within = omega arith;
+  counted = omega arith;
+  few = omega arith;
+  used-given = omega arith;
+  given-most = omega arith;
+  inside = λ i q. absurd (not-suc-le-zero q);
+}
+
 module _ (s : List ℕ) (bytes : (i : ℕ) → i < length s → getD s i 0 < 256) where
   -- one record, and what is told after it
   module _ (w : Scene) (g : Good s w) (rest : Scene → Told) (after : (v : Scene) → Good s v → w .at + 8 ≤ v .at → LinedFrom (v .records) (rest v)) where
@@ -108,20 +120,9 @@ module _ (s : List ℕ) (bytes : (i : ℕ) → i < length s → getD s i 0 < 256
   from zero w g h = absurd (let z : 1 ≤ 0 = omega (arith, g .within) in not-suc-le-zero z)
   from (suc k) w g h = by-step w g (toldFrom s k) (λ v q f. from k v q (omega arith)) (step s w) refl (step-small s w bytes g)
 
-  good-start : length s ≤ 65536 → Good s (starting blankFloats blankFloats blankCodes)
-  good-start h = record {
-    small = h;
-    within = omega arith;
-    counted = omega arith;
-    few = omega arith;
-    used-given = omega arith;
-    given-most = omega arith;
-    inside = λ i q. absurd (not-suc-le-zero q);
-  }
-
   by-length : (b : Bool) → ltb 65536 (length s) ≡ b → LinedFrom 0 (cond b (ends tooLong) (toldOf s blankFloats blankFloats blankCodes))
   by-length true e = refused-alone 0 tooLong (omega arith, (omega arith, (omega arith, tt))) (λ n q. let z : _≡_ {A = ℕ} 0 1 = cc in omega arith)
-  by-length false e = from (length s + 1) (starting blankFloats blankFloats blankCodes) (good-start (ltb-false _ _ e)) (omega arith)
+  by-length false e = from (length s + 1) (starting blankFloats blankFloats blankCodes) (good-start s (ltb-false _ _ e)) (omega arith)
 
   lined : LinedFrom 0 (sceneTold s)
   unfolding sceneTold

@@ -21,8 +21,9 @@ use Rattle.scene_steps.specs.Steps as S
 use Rattle.scene_steps.specs.Steps.{Step, step, wrote, Good}
 use Rattle.scene_steps.proofs.Goods.{onward}
 use Rattle.scene_run.specs.Run.{Ending, whole, tooLong, faulty, refused, refusedAt, lastLine, Told, ends, toldBy, toldFrom, toldOf, blankFloats, blankCodes, starting, sceneTold}
+use Rattle.scene_run.proofs.Texts.{good-start}
 use Rattle.theorem_scene.specs.Endings.{Reached, start, on, Stops, at-end, at-fault, at-refusal, at-position, Ended, Numbered, none, of-scene, two, seven, three, four, Indexed, Endings}
-use Rattle.theorem_scene.proofs.Stores.{good-start, reached-kept}
+use Rattle.theorem_scene.proofs.Stores.{reached-kept}
 use Rattle.theorem_scene.proofs.Owns.{OwnWhy, own}
 
 -- ---- where a scene ends

@@ -34,6 +34,7 @@ use Rattle.scene_steps.specs.Steps.{placeTold, placeMet, placeBy, placeStep, pa
 use Rattle.scene_steps.proofs.Goods.{no-line, onward}
 use Rattle.scene_run.specs.Run.{blankFloats, blankCodes, starting}
 use Rattle.scene_run.proofs.Floats.{read-doubles}
+use Rattle.scene_run.proofs.Texts.{good-start}
 use Rattle.theorem_built.specs.Built.{Loop, AsBuilt, as-built}
 use Rattle.theorem_scene.specs.Endings.{Reached, start, on}
 
@@ -226,17 +227,6 @@ blank-stored = record {
   normals-size = rw length-replicate refl;
   classes-size = rw length-replicate refl;
   built = λ i h. absurd (not-suc-le-zero h);
-}
-
-pub good-start : (s : List ℕ) → length s ≤ 65536 → Good s (starting blankFloats blankFloats blankCodes)
-good-start s h = record {
-  small = h;
-  within = omega arith;
-  counted = omega arith;
-  few = omega arith;
-  used-given = omega arith;
-  given-most = omega arith;
-  inside = λ i q. absurd (not-suc-le-zero q);
 }
 
 pub reached-kept : (s : List ℕ) → length s ≤ 65536 → (lines : List Line) (w : Scene) → Reached s lines w → Kept s w

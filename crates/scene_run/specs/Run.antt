@@ -52,7 +52,7 @@ toldBy (S.refused k) w rest = ends (refused (w .at) k)
 toldBy (S.refusedAt k index) w rest = ends (refusedAt (w .at) k index)
 toldBy (wrote line next) w rest = goes line (rest next)
 
--- from a scene on, of at most k records
+-- from a scene on, of at most k records. That more are never met, so that no scene ends for want of k, is stated in theorem_scene (specs/Endings: Ended)
 unfoldable pub toldFrom : List ℕ → ℕ → Scene → Told
 toldFrom s zero w = ends (whole (w .records))
 toldFrom s (suc k) w = toldBy (step s w) w (toldFrom s k)

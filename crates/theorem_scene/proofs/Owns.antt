@@ -7,15 +7,14 @@ use mathlib.Core.Logic.{_⊎_, inl, inr}
 use native.Mathlib.Nat.{not-suc-le-zero}
 use native.Mathlib.Omega.{arith}
 use lib.ListN.{length, drop, length-drop}
-use lib.Ieee.{Float, binary64}
-use lib.Ieee.Bits.{ofBits-fits}
+use lib.Ieee.{Float}
 use Rattle.vec3.specs.declared.Vec3.{Vec3}
 use Rattle.vec3.specs.Vec.{cleared, posAt}
-use Rattle.minor_arc.proofs.Clears.{clear-once}
+use Rattle.bytes_arcs.proofs.Once.{position-clear}
 use Rattle.judge.specs.Judge.{firstRefused}
 use Rattle.judge.specs.Why.{Then, stops, goes-on, at, nowhere, PositionWhy, fine, not-finite, off-range, PositionsWhy, Stands}
 use Rattle.judge.proofs.Exact as Judge
-use Rattle.wire.specs.Wire.{u64Of, floatOf, vecOf}
+use Rattle.wire.specs.Wire.{vecOf}
 use Rattle.ring_corners.proofs.Openings.{opened-le}
 use Rattle.loop_header.specs.declared.Header.{Header}
 use Rattle.loop_header.specs.Why.{LoopWhy}
@@ -59,11 +58,6 @@ positions-number l n _ (nowhere b) h = absurd (not-suc-le-zero h)
 standing : (l : List Float) (n k : ℕ) → PositionsWhy l n k → 0 < k → Stands l n k (firstRefused l n)
 standing l n zero w h = absurd (not-suc-le-zero h)
 standing l n (suc k) w h = Judge.exact .index l n k (Judge.exact .positions l n .why-given (suc k) w)
-
--- what is read is free of -0.0
-clear-read : (s : List ℕ) (o : ℕ) → cleared (vecOf s o) ≡ vecOf s o
-clear-read s o =
-    clear-once (floatOf s o) (floatOf s (o + 8)) (floatOf s (o + 16)) (ofBits-fits binary64 (u64Of s o)) (ofBits-fits binary64 (u64Of s (o + 8))) (ofBits-fits binary64 (u64Of s (o + 16)))
 
 -- a relation of two loops as built is refused with 7 alone
 seven : (h o : Header) (t : Ask.Told) → Related h o t → (k : ℕ) → t ≡ Ask.refused k → k ≡ 7
@@ -166,7 +160,7 @@ module _ (s : List ℕ) (w : Scene) where
       one : posAt (floatsAt s (w .at + 8) 1) 0 ≡ cleared p
       one =
           let o : w .at + 8 + 24 * 0 ≡ w .at + 8 = omega arith in
-          position-read s (w .at + 8) 1 0 (omega arith) ∙ ap (vecOf s) o ∙ sym (clear-read s (w .at + 8))
+          position-read s (w .at + 8) 1 0 (omega arith) ∙ ap (vecOf s) o ∙ sym (position-clear s (w .at + 8))
 
       alone : (k : ℕ) → PositionWhy (cleared p) k → 0 < k → PositionsWhy (floatsAt s (w .at + 8) 1) 1 k
       alone zero y h = absurd (not-suc-le-zero h)

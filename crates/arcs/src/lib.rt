@@ -41,7 +41,7 @@ pub enum ArcRelated {
 }
 
 // An arc as it is read: free of -0.0.
-fn clear_arc(a: MinorArc) -> MinorArc
+pub fn clear_arc(a: MinorArc) -> MinorArc
     ensures { λ r. ⌜ r ≡ Answers.clearedArc a ⌝ }
 {
     MinorArc {
@@ -60,7 +60,7 @@ pub fn arc_fault(a: MinorArc) -> u8
 }
 
 // The first refusal of an arc and a query.
-fn query_fault(a: MinorArc, p: Vec3) -> u8
+pub fn query_fault(a: MinorArc, p: Vec3) -> u8
     ensures { λ r. ⌜ r ≡ Answers.queryFault a p ⌝ }
 {
     judge::first(arc_fault(a), judge::fault(p))

@@ -1,9 +1,11 @@
--- SCOPE 4: squared chords, at most 4; -1 marks the empty cap. Definitions only.
+-- SCOPE 4, 51: squared chords, at most 4, and their radians; -1 marks the empty cap. Definitions only.
 use mathlib.Core.Bool.{_||_}
 use lib.Ieee.{Float, lt, le, eq}
 use Rattle.numbers.specs.Choice.{if_then_else_}
 use Rattle.numbers.specs.F64.{_⊕_, _⊖_, _⊗_, zero, quarter, one, two, four, minus-one}
 use Rattle.root.specs.Root.{rootOf}
+use Rattle.angle.specs.declared.Angle.{Angle}
+use Rattle.arcsine.specs.Arcsine.{radians}
 use Rattle.vec3.specs.declared.Vec3.{Vec3}
 use Rattle.vec3.specs.Vec.{dot, minus}
 use Rattle.chord_length.specs.declared.ChordLength.{ChordLength}
@@ -45,3 +47,11 @@ unfoldable pub laterMax : ChordLength → ChordLength → ChordLength
 laterMax a b =
     let d = a .0 ⊖ b .0 in
     if eq d zero || lt d zero then b else a
+
+-- the smaller of the two, the first where neither is
+unfoldable pub least : ChordLength → ChordLength → ChordLength
+least a b = if lt (b .0) (a .0) then b else a
+
+-- SCOPE 51: its central angle. Radians are another type
+abbrev pub toAngle : ChordLength → Angle
+toAngle c = record { 0 = radians (c .0) }

@@ -1,6 +1,7 @@
 // Squared chords, at most 4; -1 marks the empty cap. As spherical/chord_length.rs has them. Total on every float.
 ghost use mathlib.Core.Path.{_≡_};
 ghost use Rattle.chord_length.specs.Chords as Chords;
+use angle::Angle;
 use vec3::Vec3;
 
 // A squared chord. Radians are another type, so that neither stands where the other belongs.
@@ -68,5 +69,19 @@ impl ChordLength {
     {
         let d = self.0 - o.0;
         if (d == 0.0) | (d < 0.0) { o } else { self }
+    }
+
+    // The smaller of two, the first where neither is: the source's `min`.
+    pub fn least(self, o: ChordLength) -> ChordLength
+        ensures { λ r. ⌜ r ≡ Chords.least self o ⌝ }
+    {
+        if o.0 < self.0 { o } else { self }
+    }
+
+    // The central angle of the chord, in radians.
+    pub fn to_angle(self) -> Angle
+        ensures { λ r. ⌜ r ≡ Chords.toAngle self ⌝ }
+    {
+        Angle(arcsine::radians(self.0))
     }
 }

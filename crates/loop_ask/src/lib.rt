@@ -102,7 +102,7 @@ pub fn place(h: Header, positions: &[f64], normals: &[f64], p: Vec3) -> Placed
 }
 
 // The loop's refusals, and then the query's.
-fn query_fault(h: Header, positions: &[f64], normals: &[f64], classes: &[u8], p: Vec3) -> u8
+pub fn query_fault(h: Header, positions: &[f64], normals: &[f64], classes: &[u8], p: Vec3) -> u8
     ensures { λ r. ⌜ r ≡ Q.queryFault h (now (positions .entry)) (now (normals .entry)) (now (classes .entry)) p ⌝ }
 {
     judge::first(

@@ -24,6 +24,9 @@ zero = ofBits binary64 0
 abbrev pub quarter : Float
 quarter = ofBits binary64 0x3fd0_0000_0000_0000
 
+abbrev pub half : Float
+half = ofBits binary64 0x3fe0_0000_0000_0000
+
 abbrev pub one : Float
 one = ofBits binary64 0x3ff0_0000_0000_0000
 

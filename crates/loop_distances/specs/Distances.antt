@@ -41,14 +41,14 @@ abbrev pub footOf : MinorArc → Vec3 → Vec3
 footOf a p = orthogonalTo (a .normal) (acrossOf a p)
 
 -- the foot's where it is on the arc, ends included, else that of the nearer end
-unfoldable pub byFoot : MinorArc → Vec3 → Vec3 → ChordLength → ChordLength
-byFoot a p foot ends = if within (locationOf a foot) then Chords.chord p foot else ends
+unfoldable pub byFoot : MinorArc → Vec3 → Vec3 → ChordLength
+byFoot a p foot = if within (locationOf a foot) then Chords.chord p foot else nearerEnd a p
 
 -- p past the end: the nearer end; at a pole: the start; else by the foot
 unfoldable pub farArc : MinorArc → Vec3 → ChordLength
 farArc a p =
     if pastEnd a p then nearerEnd a p else
-    (if same (acrossOf a p) origin then Chords.chord p (a .start) else byFoot a p (footOf a p) (nearerEnd a p))
+    (if same (acrossOf a p) origin then Chords.chord p (a .start) else byFoot a p (footOf a p))
 
 -- ---- SCOPE 50: a loop
 -- of the edge from corner i to the next

@@ -1,3 +1,4 @@
 pub mod Distances
+pub mod Blocks
 pub mod Least
 pub mod Why

@@ -1,8 +1,9 @@
 // How far a position is from an arc and from a loop's border, as a squared chord. The two public functions judge what they are handed, then answer; those below
 // them are total on every float.
 ghost use mathlib.Core.Path.{_≡_};
-ghost use Prim.Native.Nat.{_*_, _≤_};
+ghost use Prim.Native.Nat.{_+_, _*_, _≤_, _<_};
 ghost use lib.ListN.{length};
+ghost use Rattle.loop_distances.specs.Blocks as B;
 ghost use Rattle.loop_distances.specs.Distances as D;
 use chord_length::ChordLength;
 use loop_header::Header;
@@ -14,14 +15,21 @@ pub enum Distance {
     Chord(ChordLength),
 }
 
+// The squared chord to the nearer end.
+fn nearer_end(a: MinorArc, p: Vec3) -> ChordLength
+    ensures { λ r. ⌜ r ≡ D.nearerEnd a p ⌝ }
+{
+    ChordLength::new(p, a.start).least(ChordLength::new(p, a.end))
+}
+
 // The distance by the foot of p on the arc's great circle, where that is on the arc; else that of the nearer end.
-fn by_foot(a: MinorArc, p: Vec3, foot: Vec3, ends: ChordLength) -> ChordLength
-    ensures { λ r. ⌜ r ≡ D.byFoot a p foot ends ⌝ }
+fn by_foot(a: MinorArc, p: Vec3, foot: Vec3) -> ChordLength
+    ensures { λ r. ⌜ r ≡ D.byFoot a p foot ⌝ }
 {
     if minor_arc::is_within(a.location(foot)) {
         ChordLength::new(p, foot)
     } else {
-        ends
+        nearer_end(a, p)
     }
 }
 
@@ -39,24 +47,227 @@ fn far_arc(a: MinorArc, p: Vec3) -> ChordLength
     if across.equals(Vec3::ZERO) {
         return start;
     }
-    by_foot(a, p, a.normal.orthogonal_to(across), start.least(end))
+    by_foot(a, p, a.normal.orthogonal_to(across))
+}
+
+// Whether the distance is surely the nearer end's, with the squared chords to the ends at hand.
+fn is_settled(a: MinorArc, start: ChordLength, end: ChordLength) -> bool
+    ensures { λ r. ⌜ r ≡ B.settledBy a start end ⌝ }
+{
+    let side = ChordLength::new(a.start, a.end);
+    start.0 - end.0 >= side.0 + numbers::EPSILON
+}
+
+// The least so far with one more, if that is settled.
+fn taken(settled: bool, r: ChordLength, c: ChordLength) -> ChordLength
+    ensures { λ x. ⌜ x ≡ B.takenIf settled r c ⌝ }
+{
+    if settled { r.least(c) } else { r }
+}
+
+// How many edges are open with one more, unless that is settled.
+fn counted(settled: bool, k: usize) -> usize
+    requires { ⌜ k ≤ 512 ⌝ }
+    ensures { λ r. ⌜ r ≡ B.countedIf settled k ⌝ }
+{
+    if settled { k } else { k + 1 }
+}
+
+// What a pass over a block leaves: the least over the settled edges, and how many are listed.
+pub struct Settled {
+    pub least: ChordLength,
+    pub count: usize,
+}
+
+// Takes in the edges of a block that are settled, and lists the others from the front of `open` on. The squared chord to a corner serves both its edges.
+fn settle(
+    positions: &[f64],
+    normals: &[f64],
+    n: usize,
+    from: usize,
+    to: usize,
+    p: Vec3,
+    before: ChordLength,
+    listed: &mut [usize],
+) -> Settled
+    requires { ⌜ (from < to) × (to ≤ from + length (now listed)) × (to ≤ n) × (n ≤ 512) × (3 * n ≤ length (now positions)) × (3 * n ≤ length (now normals)) ⌝ }
+    ensures { λ r. ⌜ B.Passed (now (positions .entry)) (now (normals .entry)) n from to p before (now (listed .exit)) r ⌝ }
+{
+    let mut r = before;
+    let mut k = 0usize;
+    let mut start = vec3::at(positions, from);
+    let mut chord = ChordLength::new(p, start);
+    for i in from..to {
+        let end = vec3::at(positions, ring_index::next(i, n));
+        let normal = vec3::at(normals, i);
+        let next = ChordLength::new(p, end);
+        let settled = is_settled(MinorArc { start, end, normal }, chord, next);
+        r = taken(settled, r, chord.least(next));
+        listed[k] = i;
+        k = counted(settled, k);
+        start = end;
+        chord = next;
+    }
+    Settled { least: r, count: k }
+}
+
+// The products of p with the normals of the edges listed, into a work array.
+fn write_across(p: Vec3, normals: &[f64], listed: &[usize], out: &mut [f64])
+    requires { ⌜ B.Indexed (now normals) (now listed) × (length (now out) ≡ 3 * length (now listed)) ⌝ }
+    ensures { λ _. ⌜ now (out .exit) ≡ B.acrossProducts p (now (normals .entry)) (now (listed .entry)) ⌝ }
+{
+    for j in 0..listed.len() {
+        vec3::put(out, j, p.stable_cross_prod(vec3::at(normals, listed[j])));
+    }
+}
+
+// The products of the normals of the edges listed with the unit vectors of those.
+fn write_feet(normals: &[f64], listed: &[usize], across: &[f64], out: &mut [f64])
+    requires { ⌜ B.Indexed (now normals) (now listed) × (length (now across) ≡ 3 * length (now listed)) × (length (now out) ≡ 3 * length (now listed)) ⌝ }
+    ensures { λ _. ⌜ now (out .exit) ≡ B.footProducts (now (normals .entry)) (now (listed .entry)) (now (across .entry)) ⌝ }
+{
+    for j in 0..listed.len() {
+        vec3::put(
+            out,
+            j,
+            vec3::at(normals, listed[j]).stable_cross_prod(vec3::raw(across, j)),
+        );
+    }
+}
+
+// The foot, by the unit vector of the product of the normal and what is across.
+fn foot_by(normal: Vec3, unit: Vec3) -> Vec3
+    ensures { λ r. ⌜ r ≡ B.footBy normal unit ⌝ }
+{
+    if unit.equals(Vec3::ZERO) {
+        normal.orthogonal()
+    } else {
+        unit
+    }
+}
+
+// How far p is from an arc that is not settled, with both unit vectors at hand.
+fn far_with(a: MinorArc, p: Vec3, across: Vec3, unit: Vec3) -> ChordLength
+    ensures { λ r. ⌜ r ≡ B.farWith a p across unit ⌝ }
+{
+    if across.equals(Vec3::ZERO) {
+        return ChordLength::new(p, a.start);
+    }
+    by_foot(a, p, foot_by(a.normal, unit))
+}
+
+// The least with the edges listed, their unit vectors at hand.
+fn far_each(
+    positions: &[f64],
+    normals: &[f64],
+    n: usize,
+    p: Vec3,
+    listed: &[usize],
+    across: &[f64],
+    units: &[f64],
+    before: ChordLength,
+) -> ChordLength
+    requires { ⌜ B.Sized (now positions) (now normals) n × B.Below n (now listed) × (length (now across) ≡ 3 * length (now listed)) × (length (now units) ≡ 3 * length (now listed)) ⌝ }
+    ensures { λ r. ⌜ r ≡ B.eachLeast (now (positions .entry)) (now (normals .entry)) n p (now (listed .entry)) (now (across .entry)) (now (units .entry)) before ⌝ }
+{
+    let mut r = before;
+    for j in 0..listed.len() {
+        let a = ring_edges::edge(positions, normals, n, listed[j]);
+        r = r.least(far_with(a, p, vec3::raw(across, j), vec3::raw(units, j)));
+    }
+    r
+}
+
+// The same, with room for the products and the unit vectors. Products and roots each have a loop of their own: the processor then has many roots under way at once.
+fn far_in(
+    positions: &[f64],
+    normals: &[f64],
+    n: usize,
+    p: Vec3,
+    listed: &[usize],
+    work: &mut [f64],
+    across: &mut [f64],
+    units: &mut [f64],
+    before: ChordLength,
+) -> ChordLength
+    requires { ⌜ B.Sized (now positions) (now normals) n × B.Below n (now listed) × (length (now listed) ≤ 16) × B.Lent (length (now listed)) (length (now work)) (length (now across)) (length (now units)) ⌝ }
+    ensures { λ r. ⌜ r ≡ B.listedLeast (now (positions .entry)) (now (normals .entry)) n p (now (listed .entry)) before ⌝ }
+{
+    write_across(p, normals, listed, work);
+    ring_edges::write_units(work, listed.len(), across);
+    write_feet(normals, listed, across, work);
+    ring_edges::write_units(work, listed.len(), units);
+    far_each(positions, normals, n, p, listed, across, units, before)
+}
+
+// The same of at most 16 edges.
+fn far_listed(
+    positions: &[f64],
+    normals: &[f64],
+    n: usize,
+    p: Vec3,
+    listed: &[usize],
+    before: ChordLength,
+) -> ChordLength
+    requires { ⌜ B.Sized (now positions) (now normals) n × B.Below n (now listed) × (length (now listed) ≤ 16) ⌝ }
+    ensures { λ r. ⌜ r ≡ B.listedLeast (now (positions .entry)) (now (normals .entry)) n p (now (listed .entry)) before ⌝ }
+{
+    let size = 3 * listed.len();
+    let mut work = [0.0f64; 48];
+    let mut across = [0.0f64; 48];
+    let mut units = [0.0f64; 48];
+    far_in(
+        positions,
+        normals,
+        n,
+        p,
+        listed,
+        &mut work[..size],
+        &mut across[..size],
+        &mut units[..size],
+        before,
+    )
+}
+
+// A block of edges: first those that are settled, for which no root is taken, and then the others.
+fn far_block(
+    positions: &[f64],
+    normals: &[f64],
+    n: usize,
+    from: usize,
+    to: usize,
+    p: Vec3,
+    before: ChordLength,
+) -> ChordLength
+    requires { ⌜ (from < to) × (to ≤ from + 16) × (to ≤ n) × B.Sized (now positions) (now normals) n × (before ≡ B.leastOf (now positions) (now normals) n p from) ⌝ }
+    ensures { λ r. ⌜ r ≡ B.leastOf (now (positions .entry)) (now (normals .entry)) n p to ⌝ }
+{
+    let mut listed = [0usize; 16];
+    let s = settle(
+        positions, normals, n, from, to, p, before, &mut listed,
+    );
+    let k = s.count;
+    far_listed(positions, normals, n, p, &listed[..k], s.least)
 }
 
 // How far p is from a ring of n corners: the least over its edges.
 fn far_ring(positions: &[f64], normals: &[f64], n: usize, p: Vec3) -> ChordLength
-    requires { ⌜ (n ≤ 512) × (3 * n ≤ length (now positions)) × (3 * n ≤ length (now normals)) ⌝ }
+    requires { ⌜ B.Sized (now positions) (now normals) n ⌝ }
     ensures { λ r. ⌜ r ≡ D.farRing (now (positions .entry)) (now (normals .entry)) n p ⌝ }
 {
     let mut r = ChordLength::MAX;
-    for i in 0..n {
-        r = r.least(far_arc(ring_edges::edge(positions, normals, n, i), p));
+    let mut from = 0usize;
+    while from < n {
+        let to = ring_index::block_end(from, n);
+        r = far_block(positions, normals, n, from, to, p, r);
+        from = to;
     }
     r
 }
 
 // How far p is from the border of a loop of n corners.
 fn far(positions: &[f64], normals: &[f64], n: usize, p: Vec3) -> ChordLength
-    requires { ⌜ (n ≤ 512) × (3 * n ≤ length (now positions)) × (3 * n ≤ length (now normals)) ⌝ }
+    requires { ⌜ B.Sized (now positions) (now normals) n ⌝ }
     ensures { λ r. ⌜ r ≡ D.far (now (positions .entry)) (now (normals .entry)) n p ⌝ }
 {
     if n == 0 {

@@ -69,7 +69,7 @@ fn unit(vs: &[f64], j: usize) -> Vec3
 }
 
 // The unit vectors of k vectors of a work array, into another.
-fn write_units(vs: &[f64], k: usize, out: &mut [f64])
+pub fn write_units(vs: &[f64], k: usize, out: &mut [f64])
     requires { ⌜ (k ≤ 512) × (length (now vs) ≡ 3 * k) × (length (now out) ≡ 3 * k) ⌝ }
     ensures { λ _. ⌜ now (out .exit) ≡ B.units (now (vs .entry)) k ⌝ }
 {

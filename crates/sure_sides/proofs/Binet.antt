@@ -63,7 +63,8 @@ join4 s a b c d a' b' c' d' h i j k l = omega arith
 
 component : (b c e f g h : Z) → (b *z f +z negz (c *z e)) *z (e *z h +z negz (f *z g)) =z (b *z e) *z (f *z h) +z (c *z f) *z (e *z g) +z negz ((b *z g) *z (f *z f) +z (c *z h) *z (e *z e))
 component b c e f g h =
-    join4 ((b *z f +z negz (c *z e)) *z (e *z h +z negz (f *z g))) ((b *z f) *z (e *z h)) ((c *z e) *z (f *z g)) ((b *z f) *z (f *z g)) ((c *z e) *z (e *z h)) ((b *z e) *z (f *z h)) ((c *z f) *z (e *z g)) ((b *z g) *z (f *z f)) ((c *z h) *z (e *z e))
+    join4 ((b *z f +z negz (c *z e)) *z (e *z h +z negz (f *z g))) ((b *z f) *z (e *z h)) ((c *z e) *z (f *z g)) ((b *z f) *z (f *z g)) ((c *z e) *z (e *z h)) ((b *z e) *z (f *z h)) ((c *z f) *z (e *z g))
+    ((b *z g) *z (f *z f)) ((c *z h) *z (e *z e))
     (spread (b *z f) (c *z e) (e *z h) (f *z g)) (inner b f e h) (inner c e f g) (outer b f f g) (outer c e e h)
 
 row : (a d e f : Z) → a *z (d +z e +z f) =z a *z d +z a *z e +z a *z f
@@ -141,7 +142,8 @@ identity-back N n A =
     let e = dotz n N *z dotz N A +z negz (dotz n A *z dotz N N) in
     finish (dotz r c) (dotz t c) (dotz o c) e
     (twice-of (r .x) (r .y) (r .z) (t .x) (t .y) (t .z) (c .x) (c .y) (c .z) (twice (N .y) (N .z) (n .y) (n .z)) (twice (N .z) (N .x) (n .z) (n .x)) (twice (N .x) (N .y) (n .x) (n .y)))
-    (sum (t .x *z c .x) (t .y *z c .y) (t .z *z c .z) (o .x *z c .x) (o .y *z c .y) (o .z *z c .z) (against (t .x) (o .x) (c .x) (turned-cross (N .y) (N .z) (n .y) (n .z))) (against (t .y) (o .y) (c .y) (turned-cross (N .z) (N .x) (n .z) (n .x))) (against (t .z) (o .z) (c .z) (turned-cross (N .x) (N .y) (n .x) (n .y))))
+    (sum (t .x *z c .x) (t .y *z c .y) (t .z *z c .z) (o .x *z c .x) (o .y *z c .y) (o .z *z c .z) (against (t .x) (o .x) (c .x) (turned-cross (N .y) (N .z) (n .y) (n .z)))
+    (against (t .y) (o .y) (c .y) (turned-cross (N .z) (N .x) (n .z) (n .x))) (against (t .z) (o .z) (c .z) (turned-cross (N .x) (N .y) (n .x) (n .y))))
     (binet n N A)
   where
     against : (a b k : Z) → a =z negz b → a *z k =z negz (b *z k)
@@ -216,7 +218,9 @@ third-eq d D E e b = omega arith
 close-at : (p q r s k l d D E e b : ℕ)
     → ((p * D + s * d) * k + (r * d + q * D) * l) * 9007199254740992 ≤ ((p * D + s * d) * l + (r * d + q * D) * k) * 9007199254740992 + e * (d * D) * (b * E)
     → ((p * k + q * l) * (D * E) + (r * l + s * k) * (d * E)) * 9007199254740992 ≤ ((r * k + s * l) * (d * E) + (p * l + q * k) * (D * E)) * 9007199254740992 + e * b * (d * E * (D * E))
-close-at p q r s k l d D E e b h = step _ _ _ ((p * D + s * d) * k + (r * d + q * D) * l) ((p * D + s * d) * l + (r * d + q * D) * k) (e * (d * D) * (b * E)) 9007199254740992 E (first-eq p q r s k l d D E) (second-eq p q r s k l d D E) (third-eq d D E e b) h
+close-at p q r s k l d D E e b h =
+    step _ _ _ ((p * D + s * d) * k + (r * d + q * D) * l) ((p * D + s * d) * l + (r * d + q * D) * k) (e * (d * D) * (b * E)) 9007199254740992 E (first-eq p q r s k l d D E) (second-eq p q r s k l d D E)
+    (third-eq d D E e b) h
 
 turned-eq : (p q r s d D k l : ℕ) → (p * D + s * d) * l + (r * d + q * D) * k ≡ (r * d + q * D) * k + (p * D + s * d) * l
 turned-eq p q r s d D k l = omega arith

@@ -53,7 +53,7 @@ unit-is r h = unit-sized (r .x) (r .y) (r .z) 32 (lit≤ tt) (h .x-is) (h .y-is)
 unit-finite : (r c : Vec3) → Sized r 32 → Sized c 8 → Fin (dot (unitAt r) c)
 unit-finite r c h k = dot-size (unitAt r) c 2 8 (lit≤ tt) (lit≤ tt) (unit-is r h) k .finite
 
--- ---- the foot, where it is not the origin
+-- ---- the foot, where the raw product is not nothing
 foot-is : (u v : Vec3) → same (stableUnit u v) origin ≡ false → orthogonalTo u v ≡ stableUnit u v
 unfolding orthogonalTo
 foot-is u v e = rw e refl

@@ -3,7 +3,8 @@ use mathlib.Core.Path.{_≡_, refl, sym, ap, _∙_, subst}
 use mathlib.Core.Bool.{Bool, true, false, not, _&&_}
 use mathlib.Core.Logic.{_⊎_, inl, inr}
 use Prim.Native.Nat.{ℕ, zero, suc, _+_, _-_, _*_, _/_, _^_, _≤_, _<_}
-use native.Mathlib.Nat.{mul-pos, zero-lt-suc, mul-le-mul, mul-le-mul-right, le-of-mul-le-mul-right, le-trans, le-of-eq, zero-mul, zero-div, pow-suc, lt-of-le-of-lt, lt-irrefl, lt-of-lt-of-le, lt-of-mul-lt-mul-right, mul-le-mul-left, mul-zero}
+use native.Mathlib.Nat.{mul-pos, zero-lt-suc, mul-le-mul, mul-le-mul-left, mul-le-mul-right, le-of-mul-le-mul-right, le-trans, le-of-eq}
+use native.Mathlib.Nat.{zero-mul, mul-zero, zero-div, pow-suc, lt-of-le-of-lt, lt-irrefl, lt-of-lt-of-le, lt-of-mul-lt-mul-right}
 use native.Mathlib.Omega.{arith}
 use lib.IntN.{ℤ}
 use lib.Dec.{T, ltb→lt, nltb→le, eqb, eqb→eq, lit<, lit≤}
@@ -161,7 +162,9 @@ inverse-near S r few = subst (λ (z : Float). near-one (magnitude z ⊠ magnitud
 
             one-at : (x d : ℕ) → d ≤ x → 1 * 1 * d ≤ 1 * (x * 1)
             one-at x d h = omega arith
-        go (inr h) = plain j (round-near-at (1 * 1 * d) (x * 1) j (omega (arith, X)) (omega (arith, r .large)) (one-at x d (2 ^ j) (cut-at x d (r .R) (2 ^ r .k) (2 ^ j) (2 ^ 1074) (pow-pos (r .k)) (r .least) u powers))) (bounded-at x d (r .R) (2 ^ r .k) (2 ^ j) (2 ^ 1074) (pow-pos 1074) twice u powers)
+        go (inr h) =
+            plain j (round-near-at (1 * 1 * d) (x * 1) j (omega (arith, X)) (omega (arith, r .large)) (one-at x d (2 ^ j) (cut-at x d (r .R) (2 ^ r .k) (2 ^ j) (2 ^ 1074) (pow-pos (r .k)) (r .least) u powers)))
+            (bounded-at x d (r .R) (2 ^ r .k) (2 ^ j) (2 ^ 1074) (pow-pos 1074) twice u powers)
           where
             j : ℕ
             j = 1074 - r .k
@@ -257,7 +260,8 @@ undone n q (fin true m e) f N Q h s =
       down-to = le-add (0 over 1) (n ⊠ (q ⊠ (0 over 1))) (n ⊠ (q ⊠ x)) x 0 2048 (nought-up n q) (back-up n q x N Q (down-pos e) h l);
     }
 
-component : (S : Float) (r : Rooting S) → magnitude (rootOf S) .num ≤ 64 * magnitude (rootOf S) .den → (x : Float) → Size x 32 → Part x S → Both (scale (magnitude (rootOf S)) (signedOf (stored (div binary64 F.one (rootOf S)) x))) (signedOf x) 2304
+component : (S : Float) (r : Rooting S) → magnitude (rootOf S) .num ≤ 64 * magnitude (rootOf S) .den → (x : Float) → Size x 32 → Part x S
+    → Both (scale (magnitude (rootOf S)) (signedOf (stored (div binary64 F.one (rootOf S)) x))) (signedOf x) 2304
 component S r few x s part =
     let n = magnitude (rootOf S) in
     let q = div binary64 F.one (rootOf S) in
@@ -312,9 +316,12 @@ products r c h k t =
     let N = den-pos (rootOf S) in
     let p = parts r 32 h in
     let few = root-few r h t in
-    let x = product-both n (magnitude (c .x)) (minus (c .x)) (signedOf (stored q (r .x))) (signedOf (r .x)) 2304 8 N (den-pos (c .x)) (signed-pos (stored q (r .x))) (signed-pos (r .x)) (omega (arith, k .x-is .small)) (component S t few (r .x) (h .x-is) (p .x-part)) in
-    let y = product-both n (magnitude (c .y)) (minus (c .y)) (signedOf (stored q (r .y))) (signedOf (r .y)) 2304 8 N (den-pos (c .y)) (signed-pos (stored q (r .y))) (signed-pos (r .y)) (omega (arith, k .y-is .small)) (component S t few (r .y) (h .y-is) (p .y-part)) in
-    let z = product-both n (magnitude (c .z)) (minus (c .z)) (signedOf (stored q (r .z))) (signedOf (r .z)) 2304 8 N (den-pos (c .z)) (signed-pos (stored q (r .z))) (signed-pos (r .z)) (omega (arith, k .z-is .small)) (component S t few (r .z) (h .z-is) (p .z-part)) in
+    let x = product-both n (magnitude (c .x)) (minus (c .x)) (signedOf (stored q (r .x))) (signedOf (r .x)) 2304 8 N (den-pos (c .x)) (signed-pos (stored q (r .x))) (signed-pos (r .x))
+    (omega (arith, k .x-is .small)) (component S t few (r .x) (h .x-is) (p .x-part)) in
+    let y = product-both n (magnitude (c .y)) (minus (c .y)) (signedOf (stored q (r .y))) (signedOf (r .y)) 2304 8 N (den-pos (c .y)) (signed-pos (stored q (r .y))) (signed-pos (r .y))
+    (omega (arith, k .y-is .small)) (component S t few (r .y) (h .y-is) (p .y-part)) in
+    let z = product-both n (magnitude (c .z)) (minus (c .z)) (signedOf (stored q (r .z))) (signedOf (r .z)) 2304 8 N (den-pos (c .z)) (signed-pos (stored q (r .z))) (signed-pos (r .z))
+    (omega (arith, k .z-is .small)) (component S t few (r .z) (h .z-is) (p .z-part)) in
     let ix = times (stored q (r .x)) (c .x) in
     let iy = times (stored q (r .y)) (c .y) in
     let iz = times (stored q (r .z)) (c .z) in
@@ -322,10 +329,11 @@ products r c h k t =
     let ry = times (r .y) (c .y) in
     let rz = times (r .z) (c .z) in
     let xy = sum-both n ix iy rx ry 18432 18432 N (times-pos (stored q (r .x)) (c .x)) (times-pos (stored q (r .y)) (c .y)) (times-pos (r .x) (c .x)) (times-pos (r .y) (c .y)) x y in
-    sum-both n (ix ⊹ iy) iz (rx ⊹ ry) rz 36864 18432 N (fractions-add ix iy (times-pos (stored q (r .x)) (c .x)) (times-pos (stored q (r .y)) (c .y))) (times-pos (stored q (r .z)) (c .z)) (fractions-add rx ry (times-pos (r .x) (c .x)) (times-pos (r .y) (c .y))) (times-pos (r .z) (c .z)) xy z
+    sum-both n (ix ⊹ iy) iz (rx ⊹ ry) rz 36864 18432 N (fractions-add ix iy (times-pos (stored q (r .x)) (c .x)) (times-pos (stored q (r .y)) (c .y))) (times-pos (stored q (r .z)) (c .z))
+    (fractions-add rx ry (times-pos (r .x) (c .x)) (times-pos (r .y) (c .y))) (times-pos (r .z) (c .z)) xy z
 
 -- ---- what the tests say, in units of 2 ^ -53: t is a limit of no more than K units, or of no less than E
-pub not-above : (t x : Float) (K : ℕ) → Plus t → Fin x → magnitude t .num * 9007199254740992 ≤ K * magnitude t .den → lt t x ≡ false → SLe (signedOf x) none K
+not-above : (t x : Float) (K : ℕ) → Plus t → Fin x → magnitude t .num * 9007199254740992 ≤ K * magnitude t .den → lt t x ≡ false → SLe (signedOf x) none K
 unfolding lt
 not-above nan x K p f l h = absurd p
 not-above (inf s) x K p f l h = absurd p
@@ -341,7 +349,7 @@ not-above (fin false n d) (fin true m e) K p f l h = at (m * up e) (down e)
     at : (a d : ℕ) → (0 * 1 + 0 * 1) * (1 * d) * 9007199254740992 ≤ (0 * d + a * 1) * (1 * 1) * 9007199254740992 + K * (1 * 1 * (1 * d))
     at a d = omega arith
 
-pub not-below : (t x : Float) (K : ℕ) → Plus t → Fin x → magnitude t .num * 9007199254740992 ≤ K * magnitude t .den → lt x (neg t) ≡ false → SLe none (signedOf x) K
+not-below : (t x : Float) (K : ℕ) → Plus t → Fin x → magnitude t .num * 9007199254740992 ≤ K * magnitude t .den → lt x (neg t) ≡ false → SLe none (signedOf x) K
 unfolding lt neg
 not-below nan x K p f l h = absurd p
 not-below (inf s) x K p f l h = absurd p
@@ -389,7 +397,8 @@ module _ (r c : Vec3) (h : Sized r 32) (k : Sized c 8) (t : Rooting (dot r r)) w
   unit-is =
       let q = F._⊘_ F.one (rootOf (dot r r)) in
       let p = parts r 32 h in
-      vec-sized (F._⊗_ q (r .x)) (F._⊗_ q (r .y)) (F._⊗_ q (r .z)) 2 (lit≤ tt) (quotient (dot r r) t (r .x) (h .x-is .finite) (p .x-part)) (quotient (dot r r) t (r .y) (h .y-is .finite) (p .y-part)) (quotient (dot r r) t (r .z) (h .z-is .finite) (p .z-part))
+      vec-sized (F._⊗_ q (r .x)) (F._⊗_ q (r .y)) (F._⊗_ q (r .z)) 2 (lit≤ tt) (quotient (dot r r) t (r .x) (h .x-is .finite) (p .x-part)) (quotient (dot r r) t (r .y) (h .y-is .finite) (p .y-part))
+      (quotient (dot r r) t (r .z) (h .z-is .finite) (p .z-part))
 
   before : SNear (dot r c) (dot3 r c) 2304
   before = dot-signed r c 32 8 8 h k (lit≤ tt) (lit≤ tt)

@@ -54,7 +54,7 @@ at-shut x y d D e h = omega (arith, mul-le-mul-right (d * D) h)
 shut : (a z : Z) (d D e : ℕ) → Close a d z D e → Both (at a d) (at z D) e
 shut a z d D e h = record { up-to = shut-at (a .p * D + z .q * d) (z .p * d + a .q * D) d D e (h .above); down-to = at-shut (a .p * D + z .q * d) (z .p * d + a .q * D) d D e (h .below) }
 
-pub moved : (x : Float) (a b : Signed) (e f : ℕ) → Fractions a → Fractions b → SNear x a e → Both a b f → SNear x b (e + f)
+moved : (x : Float) (a b : Signed) (e f : ℕ) → Fractions a → Fractions b → SNear x a e → Both a b f → SNear x b (e + f)
 moved x a b e f A B h k = record {
   finite = h .finite;
   above = s-trans (signedOf x) a b e f (signed-pos x) A B (h .above) (k .up-to);
@@ -127,7 +127,7 @@ z-add x y z w D e f a b j P h k s t l m =
     snear-same (add binary64 x y) (at z D ⊹ at w D) (at (z +z w) D) (2 ^ j + (e + f)) (fractions-add (at z D) (at w D) (at-pos z D P) (at-pos w D P)) (at-pos (z +z w) D P) (sum-is z w D)
     (snear-add x y (at z D) (at w D) e f a b j (at-pos z D P) (at-pos w D P) h k s t m l)
 
-pub z-neg : (x : Float) (z : Z) (D e : ℕ) → SNear x (at z D) e → SNear (neg x) (at (negz z) D) e
+z-neg : (x : Float) (z : Z) (D e : ℕ) → SNear x (at z D) e → SNear (neg x) (at (negz z) D) e
 unfolding neg
 z-neg nan z D e h = absurd (h .finite)
 z-neg (inf s) z D e h = absurd (h .finite)

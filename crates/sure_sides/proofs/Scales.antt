@@ -39,7 +39,7 @@ turn true a = record { gain = a .loss; loss = a .gain }
 pub scale-pos : (f : Frac) (a : Signed) → Pos f → Fractions a → Fractions (scale f a)
 scale-pos f a h k = record { gain-is = mul-pos h (k .gain-is); loss-is = mul-pos h (k .loss-is) }
 
-pub turn-pos : (t : Bool) (a : Signed) → Fractions a → Fractions (turn t a)
+turn-pos : (t : Bool) (a : Signed) → Fractions a → Fractions (turn t a)
 turn-pos false a h = h
 turn-pos true a h = record { gain-is = h .loss-is; loss-is = h .gain-is }
 
@@ -70,7 +70,7 @@ s-turn false a b e h k = h
 s-turn true a b e h k = swap (b .gain) (a .loss) (a .gain) (b .loss) e k
 
 -- ---- equal ones
-pub same-le : (a b : Signed) → SSame a b → SLe a b 0
+same-le : (a b : Signed) → SSame a b → SLe a b 0
 same-le a b h = omega arith
 
 pub scale-out : (f : Frac) (a b : Signed) → SLe (scale f (a ⊹ b)) (scale f a ⊹ scale f b) 0
@@ -155,7 +155,9 @@ mul-signed nan y j f g l h = absurd f
 mul-signed (inf s) y j f g l h = absurd f
 mul-signed (fin s m e) nan j f g l h = absurd g
 mul-signed (fin s m e) (inf t) j f g l h = absurd g
-mul-signed (fin s m e) (fin t n d) j f g l h = go s t (plus-plus (m * up e) (down e) (n * up d) (down d)) (plus-minus (m * up e) (down e) (n * up d) (down d)) (minus-plus (m * up e) (down e) (n * up d) (down d)) (minus-minus (m * up e) (down e) (n * up d) (down d))
+mul-signed (fin s m e) (fin t n d) j f g l h =
+    go s t (plus-plus (m * up e) (down e) (n * up d) (down d)) (plus-minus (m * up e) (down e) (n * up d) (down d)) (minus-plus (m * up e) (down e) (n * up d) (down d))
+    (minus-minus (m * up e) (down e) (n * up d) (down d))
   where
     num : ℕ
     num = m * up e * (n * up d)
@@ -201,7 +203,8 @@ snear-add x y a b e f p q j A B h k P' Q' l m =
     record {
       finite = n .finite;
       above = s-trans r s (a ⊹ b) (2 ^ j) (e + f) (signed-pos (add binary64 x y)) S (fractions-add a b A B) (n .above) (s-add (signedOf x) a (signedOf y) b e f (signed-pos x) A (signed-pos y) B (h .above) (k .above));
-      below = s-grow (a ⊹ b) r (e + f + 2 ^ j) (2 ^ j + (e + f)) (omega arith) (s-trans (a ⊹ b) s r (e + f) (2 ^ j) (fractions-add a b A B) S (signed-pos (add binary64 x y)) (s-add a (signedOf x) b (signedOf y) e f A (signed-pos x) B (signed-pos y) (h .below) (k .below)) (n .below));
+      below = s-grow (a ⊹ b) r (e + f + 2 ^ j) (2 ^ j + (e + f)) (omega arith)
+          (s-trans (a ⊹ b) s r (e + f) (2 ^ j) (fractions-add a b A B) S (signed-pos (add binary64 x y)) (s-add a (signedOf x) b (signedOf y) e f A (signed-pos x) B (signed-pos y) (h .below) (k .below)) (n .below));
     }
   where
     wide : (an ad bn bd : ℕ) → an * 1 ≤ p * ad → bn * 1 ≤ q * bd → an * bd + bn * ad ≤ 2 ^ j * (ad * bd)
@@ -226,7 +229,8 @@ dot-signed u v a b j h k l m =
     let Ty = times-pos (u .y) (v .y) in
     let q = snear-add (mul binary64 (u .x) (v .x)) (mul binary64 (u .y) (v .y)) tx ty (2 ^ j) (2 ^ j) (a * b) (a * b) (suc j) Tx Ty px py sx sy (omega arith) (omega (arith, pow-suc 2 j)) in
     let sq : Size (add binary64 (mul binary64 (u .x) (v .x)) (mul binary64 (u .y) (v .y))) (a * b + a * b) = add-size (mul binary64 (u .x) (v .x)) (mul binary64 (u .y) (v .y)) (a * b) (a * b) sx sy (omega arith) in
-    let r = snear-add (add binary64 (mul binary64 (u .x) (v .x)) (mul binary64 (u .y) (v .y))) (mul binary64 (u .z) (v .z)) (tx ⊹ ty) tz (2 ^ suc j + (2 ^ j + 2 ^ j)) (2 ^ j) (a * b + a * b) (a * b) (suc (suc j)) (fractions-add tx ty Tx Ty) (times-pos (u .z) (v .z)) q pz sq sz (omega arith) (omega (arith, pow-suc 2 j, pow-suc 2 (suc j))) in
+    let r = snear-add (add binary64 (mul binary64 (u .x) (v .x)) (mul binary64 (u .y) (v .y))) (mul binary64 (u .z) (v .z)) (tx ⊹ ty) tz (2 ^ suc j + (2 ^ j + 2 ^ j)) (2 ^ j) (a * b + a * b) (a * b) (suc (suc j))
+    (fractions-add tx ty Tx Ty) (times-pos (u .z) (v .z)) q pz sq sz (omega arith) (omega (arith, pow-suc 2 j, pow-suc 2 (suc j))) in
     let c : 2 ^ suc (suc j) + (2 ^ suc j + (2 ^ j + 2 ^ j) + 2 ^ j) ≡ 9 * 2 ^ j = omega (arith, pow-suc 2 j, pow-suc 2 (suc j)) in
     subst (λ (z : ℕ). SNear (dot u v) (dot3 u v) z) c r
   where

@@ -47,7 +47,7 @@ over-limit m e h =
         clash a b h e = omega arith
     go false false f g t = t
 
-plus-is : (m : ℕ) (e : ℤ) → lt (fin false m e) F.zero ≡ false
+pub plus-is : (m : ℕ) (e : ℤ) → lt (fin false m e) F.zero ≡ false
 unfolding lt ofBits
 plus-is m e = is-false (ltb (m * up e * 1) (0 * 1 * down e)) (λ (t : T (ltb (m * up e * 1) (0 * 1 * down e))). omega (arith, ltb→lt (m * up e * 1) (0 * 1 * down e) t))
 

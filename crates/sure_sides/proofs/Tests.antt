@@ -5,18 +5,18 @@ use Prim.Native.Nat.{ℕ, _+_, _-_, _*_, _≤_, _<_}
 use native.Mathlib.Nat.{mul-pos, mul-le-mul, mul-le-mul-right, le-of-mul-le-mul-right, add-sub-of-le}
 use native.Mathlib.Omega.{arith}
 use lib.IntN.{ℤ}
-use lib.Dec.{T, ltb, ltb→lt, nltb→le}
+use lib.Dec.{T, ltb→lt, nltb→le}
 use lib.Ieee.{Float, nan, inf, fin, ofBits, up, down, neg, lt, le}
 use lib.Ieee.Fits.{down-pos}
 use Rattle.numbers.specs.F64 as F
 use Rattle.numbers.specs.Near.{abs}
-use Rattle.numbers.proofs.Rounds.{is-false}
 use Rattle.fractions.specs.Frac.{magnitude}
 use Rattle.fractions.proofs.Ops.{le-cross}
 use Rattle.fractions.proofs.Sizes.{Fin}
 use Rattle.exact_angles.proofs.Adds.{SNear}
 use Rattle.sure_sides.specs.Sure.{limit, margin, slack}
 use Rattle.sure_sides.proofs.Binet.{Z, _+z_, _*z_, negz, _=z_, prod-le}
+use Rattle.sure_sides.proofs.Settled.{plus-is}
 use Rattle.sure_sides.proofs.Near.{at, opened}
 
 -- ---- beyond the margin
@@ -58,10 +58,6 @@ over-half (fin true m e) z D P h n = absurd (subst T (sym h) tt)
 over-half (fin false m e) z D P h n = half-at (m * up e) (down e) (z .p) (z .q) D (down-pos e) (ltb→lt (1 * 1 * down e) (m * up e * 2) (subst T (sym h) tt)) (opened (fin false m e) z D 36 P n .above)
 
 -- ---- no more than 2^-36 in size
-plus-is : (m : ℕ) (e : ℤ) → lt (fin false m e) F.zero ≡ false
-unfolding lt ofBits
-plus-is m e = is-false (ltb (m * up e * 1) (0 * 1 * down e)) (λ (t : T (ltb (m * up e * 1) (0 * 1 * down e))). omega (arith, ltb→lt (m * up e * 1) (0 * 1 * down e) t))
-
 tiny : (x : Float) → Fin x → le (abs x) slack ≡ true → magnitude x .num * 68719476736 ≤ magnitude x .den
 unfolding abs
 tiny nan f h = absurd f
@@ -177,7 +173,8 @@ unfolding lt neg ofBits
 not-under nan z D P n h l = n .finite
 not-under (inf s) z D P n h l = n .finite
 not-under (fin true m e) z D P n h l =
-    clash-at (m * up e) (down e) (z .p) (z .q) D (down-pos e) P (nltb→le (1 * 1 * down e) (m * up e * 34359738368) (subst (λ (b : Bool). T (not b)) (sym h) tt)) (trim (m * up e) (down e) (z .p) (z .q) (opened (fin true m e) z D 7680 P n .above)) l
+    clash-at (m * up e) (down e) (z .p) (z .q) D (down-pos e) P (nltb→le (1 * 1 * down e) (m * up e * 34359738368) (subst (λ (b : Bool). T (not b)) (sym h) tt))
+    (trim (m * up e) (down e) (z .p) (z .q) (opened (fin true m e) z D 7680 P n .above)) l
   where
     trim : (a d p q : ℕ) → (0 * D + q * d) * 9007199254740992 ≤ (p * d + a * D) * 9007199254740992 + 7680 * (d * D) → q * d * 9007199254740992 ≤ (p * d + a * D) * 9007199254740992 + 7680 * (d * D)
     trim a d p q h = omega arith
@@ -191,7 +188,8 @@ unfolding lt ofBits
 not-over nan z D P n h l = n .finite
 not-over (inf s) z D P n h l = n .finite
 not-over (fin false m e) z D P n h l =
-    clash-at (m * up e) (down e) (z .q) (z .p) D (down-pos e) P (nltb→le (1 * 1 * down e) (m * up e * 34359738368) (subst (λ (b : Bool). T (not b)) (sym h) tt)) (trim (m * up e) (down e) (z .p) (z .q) (opened (fin false m e) z D 7680 P n .below)) l
+    clash-at (m * up e) (down e) (z .q) (z .p) D (down-pos e) P (nltb→le (1 * 1 * down e) (m * up e * 34359738368) (subst (λ (b : Bool). T (not b)) (sym h) tt))
+    (trim (m * up e) (down e) (z .p) (z .q) (opened (fin false m e) z D 7680 P n .below)) l
   where
     trim : (a d p q : ℕ) → (p * d + 0 * D) * 9007199254740992 ≤ (a * D + q * d) * 9007199254740992 + 7680 * (d * D) → p * d * 9007199254740992 ≤ (q * d + a * D) * 9007199254740992 + 7680 * (d * D)
     trim a d p q h = omega arith

@@ -58,7 +58,8 @@ minor p q r s zp zq zr zs D e f a c b j P hp hq hr hs sp sq sr ss bq bs l i =
     let W : 2 ^ j ≤ 1024 = pow-mono {i = j} {j = 10} i in
     let m = z-mul p q zp zq D D e f a c b j P P hp hq sp sq bq l (omega arith) in
     let n = z-mul r s zr zs D D e f a c b j P P hr hs sr ss bs l (omega arith) in
-    z-sub (mul binary64 p q) (mul binary64 r s) (zp *z zq) (zr *z zs) (D * D) (2 ^ j + (f * a + e * b)) (2 ^ j + (f * a + e * b)) (a * c) (a * c) (suc j) (mul-pos P P) m n (mul-size p q a c sp sq (omega arith)) (mul-size r s a c sr ss (omega arith)) (omega (arith, pow-suc 2 j)) (omega arith)
+    z-sub (mul binary64 p q) (mul binary64 r s) (zp *z zq) (zr *z zs) (D * D) (2 ^ j + (f * a + e * b)) (2 ^ j + (f * a + e * b)) (a * c) (a * c) (suc j) (mul-pos P P) m n (mul-size p q a c sp sq (omega arith))
+    (mul-size r s a c sr ss (omega arith)) (omega (arith, pow-suc 2 j)) (omega arith)
 
 product-near : (u v : Vec3) (z w : Z3) (D e f a c b j : ℕ) → 0 < D → NearV u z D e → NearV v w D f → Sized u a → Sized v c → SmallV w D b → a * c ≤ 2 ^ j → j ≤ 10
     → NearV (product u v) (crossz z w) (D * D) (2 ^ suc j + (2 ^ j + (f * a + e * b) + (2 ^ j + (f * a + e * b))))
@@ -114,9 +115,11 @@ dot-near u v z w D E e f a c b j P Q h k s t l m i =
     let sx : Size (mul binary64 (u .x) (v .x)) (a * c) = mul-size (u .x) (v .x) a c (s .x-is) (t .x-is) (omega arith) in
     let sy : Size (mul binary64 (u .y) (v .y)) (a * c) = mul-size (u .y) (v .y) a c (s .y-is) (t .y-is) (omega arith) in
     let so : Size (mul binary64 (u .z) (v .z)) (a * c) = mul-size (u .z) (v .z) a c (s .z-is) (t .z-is) (omega arith) in
-    let xy = z-add (mul binary64 (u .x) (v .x)) (mul binary64 (u .y) (v .y)) (z .x *z w .x) (z .y *z w .y) (D * E) (slip e f a b j) (slip e f a b j) (a * c) (a * c) (suc j) (mul-pos P Q) x y sx sy (omega (arith, pow-suc 2 j)) (omega arith) in
+    let xy = z-add (mul binary64 (u .x) (v .x)) (mul binary64 (u .y) (v .y)) (z .x *z w .x) (z .y *z w .y) (D * E) (slip e f a b j) (slip e f a b j) (a * c) (a * c) (suc j) (mul-pos P Q) x y sx sy
+    (omega (arith, pow-suc 2 j)) (omega arith) in
     let sxy : Size (add binary64 (mul binary64 (u .x) (v .x)) (mul binary64 (u .y) (v .y))) (a * c + a * c) = add-size (mul binary64 (u .x) (v .x)) (mul binary64 (u .y) (v .y)) (a * c) (a * c) sx sy (omega arith) in
-    z-add (add binary64 (mul binary64 (u .x) (v .x)) (mul binary64 (u .y) (v .y))) (mul binary64 (u .z) (v .z)) (z .x *z w .x +z z .y *z w .y) (z .z *z w .z) (D * E) (2 ^ suc j + (slip e f a b j + slip e f a b j)) (slip e f a b j) (a * c + a * c) (a * c) (suc (suc j)) (mul-pos P Q) xy o sxy so (omega (arith, pow-suc 2 j, pow-suc 2 (suc j))) (omega arith)
+    z-add (add binary64 (mul binary64 (u .x) (v .x)) (mul binary64 (u .y) (v .y))) (mul binary64 (u .z) (v .z)) (z .x *z w .x +z z .y *z w .y) (z .z *z w .z) (D * E) (2 ^ suc j + (slip e f a b j + slip e f a b j))
+    (slip e f a b j) (a * c + a * c) (a * c) (suc (suc j)) (mul-pos P Q) xy o sxy so (omega (arith, pow-suc 2 j, pow-suc 2 (suc j))) (omega arith)
 
 pub stable-sized : (u v : Vec3) → Sized u 2 → Sized v 2 → Sized (stableCross u v) 32
 stable-sized u v s t = product-sized (summed u v) (parted u v) 4 4 (lit≤ tt) (lit≤ tt) (summed-sized u v s t) (parted-sized u v s t)
@@ -125,13 +128,17 @@ pub cross-sized : (u v : Vec3) → Sized u 2 → Sized v 2 → Sized (cross u v)
 cross-sized u v s t = let p = product-sized u v 2 2 (lit≤ tt) (lit≤ tt) s t in vec-sized (product u v .x) (product u v .y) (product u v .z) 8 (lit≤ tt) (p .x-is) (p .y-is) (p .z-is)
 
 -- ---- the raw product of N and n, times the cross product of N and A
-module _ (N n A : Vec3) (zN zn zA : Z3) (D : ℕ) (P : 0 < D) (hN : NearV N zN D 0) (hn : NearV n zn D 0) (hA : NearV A zA D 0) (sN : Sized N 2) (sn : Sized n 2) (sA : Sized A 2) (bN : SmallV zN D 2) (bn : SmallV zn D 2) (bA : SmallV zA D 2) where
+module _ (N n A : Vec3) (zN zn zA : Z3) (D : ℕ) (P : 0 < D) (hN : NearV N zN D 0) (hn : NearV n zn D 0) (hA : NearV A zA D 0)
+    (sN : Sized N 2) (sn : Sized n 2) (sA : Sized A 2) (bN : SmallV zN D 2) (bn : SmallV zn D 2) (bA : SmallV zA D 2) where
   raw-near : NearV (stableCross N n) (crossz (sumz zN zn) (partz zN zn)) (D * D) 128
-  raw-near = product-near (summed N n) (parted N n) (sumz zN zn) (partz zN zn) D 4 4 4 4 4 4 P (sum-near N n zN zn D P hN hn sN sn) (part-near N n zN zn D P hN hn sN sn) (summed-sized N n sN sn) (parted-sized N n sN sn) (part-small zN zn D bN bn) (lit≤ tt) (lit≤ tt)
+  raw-near =
+      product-near (summed N n) (parted N n) (sumz zN zn) (partz zN zn) D 4 4 4 4 4 4 P (sum-near N n zN zn D P hN hn sN sn) (part-near N n zN zn D P hN hn sN sn) (summed-sized N n sN sn) (parted-sized N n sN sn)
+      (part-small zN zn D bN bn) (lit≤ tt) (lit≤ tt)
 
   raw-sized : Sized (stableCross N n) 32
   raw-sized = stable-sized N n sN sn
 
   pub back-near : SNear (dot (stableCross N n) (cross N A)) (at (dotz (crossz (sumz zN zn) (partz zN zn)) (crossz zN zA)) (D * D * (D * D))) 7680
   back-near =
-      dot-near (stableCross N n) (cross N A) (crossz (sumz zN zn) (partz zN zn)) (crossz zN zA) (D * D) (D * D) 128 24 32 8 8 8 (mul-pos P P) (mul-pos P P) raw-near (cross-near N A zN zA D P hN hA sN sA bA) raw-sized (cross-sized N A sN sA) (cross-small zN zA D bN bA) (lit≤ tt) (lit≤ tt)
+      dot-near (stableCross N n) (cross N A) (crossz (sumz zN zn) (partz zN zn)) (crossz zN zA) (D * D) (D * D) 128 24 32 8 8 8 (mul-pos P P) (mul-pos P P) raw-near
+      (cross-near N A zN zA D P hN hA sN sA bA) raw-sized (cross-sized N A sN sA) (cross-small zN zA D bN bA) (lit≤ tt) (lit≤ tt)

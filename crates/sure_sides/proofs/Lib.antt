@@ -1,0 +1,9 @@
+pub mod Scales
+pub mod Lengths
+pub mod Settled
+pub mod Binet
+pub mod Near
+pub mod Vectors
+pub mod Tests
+pub mod Backs
+pub mod Feet

@@ -148,5 +148,5 @@ distances = record {
   no-other = λ ps ns n p c l. only-least (farEdge ps ns n p) (λ i. far-within (edgeAt ps ns n i) p) n c (farRing ps ns n p) l (ring-least ps ns n p);
   arc-answers = λ a p c e. chordal c (told-within (Arcs.queryFault (clearedArc a) (cleared p)) (farArc (clearedArc a) (cleared p)) c (far-within (clearedArc a) (cleared p)) e);
   loop-answers = λ h ps ns cs p c e.
-    chordal c (told-within (queryFault h ps ns cs (cleared p)) (far ps ns (h .count) (cleared p)) c (loop-within ps ns (h .count) (cleared p)) e);
+      chordal c (told-within (queryFault h ps ns cs (cleared p)) (far ps ns (h .count) (cleared p)) c (loop-within ps ns (h .count) (cleared p)) e);
 }

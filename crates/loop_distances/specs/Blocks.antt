@@ -1,7 +1,7 @@
 -- The faster form over a block of edges: those that are settled are taken in ahead of any root, and the others are listed. Definitions only.
 use Prim.Native.Nat.{ℕ, zero, suc, _+_, _-_, _*_, _≤_, _<_}
 use mathlib.Core.Path.{_≡_}
-use mathlib.Core.Bool.{Bool, true, false}
+use mathlib.Core.Bool.{Bool, true, false, _||_}
 use mathlib.Core.List.{List, [], _∷_}
 use lib.Ieee.{Float, le}
 use lib.ListN.{length, getD, take}
@@ -14,16 +14,18 @@ use Rattle.chord_length.specs.declared.ChordLength.{ChordLength}
 use Rattle.chord_length.specs.Chords.{most, least}
 use Rattle.chord_length.specs.Chords as Chords
 use Rattle.minor_arc.specs.declared.MinorArc.{MinorArc}
+use Rattle.judge.specs.Judge.{faultOf, positionFault}
+use Rattle.sure_sides.specs.Sure.{surely}
 use Rattle.ring_edges.specs.Edges.{edgeAt}
 use Rattle.loop_distances.specs.declared.Settled.{Settled}
 use Rattle.loop_distances.specs.Distances.{nearerEnd, byFoot, farEdge}
 
 -- ---- which edges are settled: their distance is the nearer end's, and no root is needed to know it
-abbrev pub settledBy : MinorArc → ChordLength → ChordLength → Bool
-settledBy a start end = le (Chords.chord (a .start) (a .end) .0 ⊕ epsilon) (start .0 ⊖ end .0)
+abbrev pub settledBy : MinorArc → Vec3 → ChordLength → ChordLength → Bool
+settledBy a p start end = surely a p || le (Chords.chord (a .start) (a .end) .0 ⊕ epsilon) (start .0 ⊖ end .0)
 
 abbrev pub settled : MinorArc → Vec3 → Bool
-settled a p = settledBy a (Chords.chord p (a .start)) (Chords.chord p (a .end))
+settled a p = settledBy a p (Chords.chord p (a .start)) (Chords.chord p (a .end))
 
 abbrev pub settledAt : List Float → List Float → ℕ → Vec3 → ℕ → Bool
 settledAt ps ns n p i = settled (edgeAt ps ns n i) p
@@ -68,6 +70,11 @@ pub record Sized (ps ns : List Float) (n : ℕ) : Type 0 where
   pub few : n ≤ 512
   pub positions : 3 * n ≤ length ps
   pub normals : 3 * n ≤ length ns
+
+-- no corner and no query that the judge refuses
+pub record Fine (ps : List Float) (n : ℕ) (p : Vec3) : Type 0 where
+  pub corners : (i : ℕ) → i < n → positionFault ps i ≡ 0
+  pub query : faultOf p ≡ 0
 
 pub record Lent (list work across units : ℕ) : Type 0 where
   pub for-work : work ≡ 3 * list

@@ -3,12 +3,18 @@
 ghost use mathlib.Core.Path.{_≡_};
 ghost use Prim.Native.Nat.{_+_, _*_, _≤_, _<_};
 ghost use lib.ListN.{length};
+ghost use Rattle.sure_sides.specs.Sure as S;
 ghost use Rattle.loop_distances.specs.Blocks as B;
 ghost use Rattle.loop_distances.specs.Distances as D;
 use chord_length::ChordLength;
 use loop_header::Header;
 use minor_arc::MinorArc;
 use vec3::Vec3;
+
+// 2^-36 and 2^-23: docs/SCOPE.md knows nothing of them, for they decide no answer (crate sure_sides).
+const SLACK: f64 = 0.000000000014551915228366851806640625;
+
+const WIDE: f64 = 0.00000011920928955078125;
 
 pub enum Distance {
     Refused(u8),
@@ -50,10 +56,37 @@ fn far_arc(a: MinorArc, p: Vec3) -> ChordLength
     by_foot(a, p, a.normal.orthogonal_to(across))
 }
 
-// Whether the distance is surely the nearer end's, with the squared chords to the ends at hand.
-fn is_settled(a: MinorArc, start: ChordLength, end: ChordLength) -> bool
-    ensures { λ r. ⌜ r ≡ B.settledBy a start end ⌝ }
+// Whether no component is above 2 in size.
+fn is_tame(v: Vec3) -> bool
+    ensures { λ r. ⌜ r ≡ S.tame v ⌝ }
 {
+    (numbers::abs(v.x) <= 2.0) & (numbers::abs(v.y) <= 2.0) & (numbers::abs(v.z) <= 2.0)
+}
+
+// Whether the normal is across both ends, up to 2^-36, and not too short.
+fn is_upright(a: MinorArc) -> bool
+    ensures { λ r. ⌜ r ≡ S.upright a ⌝ }
+{
+    let start = numbers::abs(a.normal.dot_prod(a.start)) <= SLACK;
+    let end = numbers::abs(a.normal.dot_prod(a.end)) <= SLACK;
+    (a.normal.squared_norm() > 0.5) & (start & end)
+}
+
+// Whether p is before the start or after the end, by the product of p and the normal as it comes, ahead of any root.
+fn is_beyond(a: MinorArc, p: Vec3) -> bool
+    ensures { λ r. ⌜ r ≡ S.beyond a p ⌝ }
+{
+    let r = p.stable_cross_prod(a.normal);
+    (r.dot_prod(a.start) < -WIDE) | (r.dot_prod(a.end) > WIDE)
+}
+
+// Whether the distance is surely the nearer end's, with the squared chords to the ends at hand: by the foot, which is then off the arc, or as the source has it.
+fn is_settled(a: MinorArc, p: Vec3, start: ChordLength, end: ChordLength) -> bool
+    ensures { λ r. ⌜ r ≡ B.settledBy a p start end ⌝ }
+{
+    if is_tame(a.normal) & is_upright(a) & is_beyond(a, p) {
+        return true;
+    }
     let side = ChordLength::new(a.start, a.end);
     start.0 - end.0 >= side.0 + numbers::EPSILON
 }
@@ -87,13 +120,13 @@ fn settle(
     from: usize,
     to: usize,
     p: Vec3,
-    before: ChordLength,
+    known: ChordLength,
     listed: &mut [usize],
 ) -> Settled
-    requires { ⌜ (from < to) × (to ≤ from + length (now listed)) × (to ≤ n) × (n ≤ 512) × (3 * n ≤ length (now positions)) × (3 * n ≤ length (now normals)) ⌝ }
-    ensures { λ r. ⌜ B.Passed (now (positions .entry)) (now (normals .entry)) n from to p before (now (listed .exit)) r ⌝ }
+    requires { ⌜ (from < to) × (to ≤ from + length (now listed)) × (to ≤ n) × B.Sized (now positions) (now normals) n ⌝ }
+    ensures { λ r. ⌜ B.Passed (now (positions .entry)) (now (normals .entry)) n from to p known (now (listed .exit)) r ⌝ }
 {
-    let mut r = before;
+    let mut r = known;
     let mut k = 0usize;
     let mut start = vec3::at(positions, from);
     let mut chord = ChordLength::new(p, start);
@@ -101,7 +134,7 @@ fn settle(
         let end = vec3::at(positions, ring_index::next(i, n));
         let normal = vec3::at(normals, i);
         let next = ChordLength::new(p, end);
-        let settled = is_settled(MinorArc { start, end, normal }, chord, next);
+        let settled = is_settled(MinorArc { start, end, normal }, p, chord, next);
         r = taken(settled, r, chord.least(next));
         listed[k] = i;
         k = counted(settled, k);
@@ -165,12 +198,12 @@ fn far_each(
     listed: &[usize],
     across: &[f64],
     units: &[f64],
-    before: ChordLength,
+    known: ChordLength,
 ) -> ChordLength
-    requires { ⌜ B.Sized (now positions) (now normals) n × B.Below n (now listed) × (length (now across) ≡ 3 * length (now listed)) × (length (now units) ≡ 3 * length (now listed)) ⌝ }
-    ensures { λ r. ⌜ r ≡ B.eachLeast (now (positions .entry)) (now (normals .entry)) n p (now (listed .entry)) (now (across .entry)) (now (units .entry)) before ⌝ }
+    requires { ⌜ B.Sized (now positions) (now normals) n × B.Below n (now listed) × (length (now listed) ≤ 16) × (length (now across) ≡ 3 * length (now listed)) × (length (now units) ≡ 3 * length (now listed)) ⌝ }
+    ensures { λ r. ⌜ r ≡ B.eachLeast (now (positions .entry)) (now (normals .entry)) n p (now (listed .entry)) (now (across .entry)) (now (units .entry)) known ⌝ }
 {
-    let mut r = before;
+    let mut r = known;
     for j in 0..listed.len() {
         let a = ring_edges::edge(positions, normals, n, listed[j]);
         r = r.least(far_with(a, p, vec3::raw(across, j), vec3::raw(units, j)));
@@ -188,16 +221,16 @@ fn far_in(
     work: &mut [f64],
     across: &mut [f64],
     units: &mut [f64],
-    before: ChordLength,
+    known: ChordLength,
 ) -> ChordLength
     requires { ⌜ B.Sized (now positions) (now normals) n × B.Below n (now listed) × (length (now listed) ≤ 16) × B.Lent (length (now listed)) (length (now work)) (length (now across)) (length (now units)) ⌝ }
-    ensures { λ r. ⌜ r ≡ B.listedLeast (now (positions .entry)) (now (normals .entry)) n p (now (listed .entry)) before ⌝ }
+    ensures { λ r. ⌜ r ≡ B.listedLeast (now (positions .entry)) (now (normals .entry)) n p (now (listed .entry)) known ⌝ }
 {
     write_across(p, normals, listed, work);
     ring_edges::write_units(work, listed.len(), across);
     write_feet(normals, listed, across, work);
     ring_edges::write_units(work, listed.len(), units);
-    far_each(positions, normals, n, p, listed, across, units, before)
+    far_each(positions, normals, n, p, listed, across, units, known)
 }
 
 // The same of at most 16 edges.
@@ -207,10 +240,10 @@ fn far_listed(
     n: usize,
     p: Vec3,
     listed: &[usize],
-    before: ChordLength,
+    known: ChordLength,
 ) -> ChordLength
     requires { ⌜ B.Sized (now positions) (now normals) n × B.Below n (now listed) × (length (now listed) ≤ 16) ⌝ }
-    ensures { λ r. ⌜ r ≡ B.listedLeast (now (positions .entry)) (now (normals .entry)) n p (now (listed .entry)) before ⌝ }
+    ensures { λ r. ⌜ r ≡ B.listedLeast (now (positions .entry)) (now (normals .entry)) n p (now (listed .entry)) known ⌝ }
 {
     let size = 3 * listed.len();
     let mut work = [0.0f64; 48];
@@ -225,7 +258,7 @@ fn far_listed(
         &mut work[..size],
         &mut across[..size],
         &mut units[..size],
-        before,
+        known,
     )
 }
 
@@ -237,22 +270,20 @@ fn far_block(
     from: usize,
     to: usize,
     p: Vec3,
-    before: ChordLength,
+    known: ChordLength,
 ) -> ChordLength
-    requires { ⌜ (from < to) × (to ≤ from + 16) × (to ≤ n) × B.Sized (now positions) (now normals) n × (before ≡ B.leastOf (now positions) (now normals) n p from) ⌝ }
+    requires { ⌜ (from < to) × (to ≤ from + 16) × (to ≤ n) × B.Sized (now positions) (now normals) n × B.Fine (now positions) n p × (known ≡ B.leastOf (now positions) (now normals) n p from) ⌝ }
     ensures { λ r. ⌜ r ≡ B.leastOf (now (positions .entry)) (now (normals .entry)) n p to ⌝ }
 {
     let mut listed = [0usize; 16];
-    let s = settle(
-        positions, normals, n, from, to, p, before, &mut listed,
-    );
+    let s = settle(positions, normals, n, from, to, p, known, &mut listed);
     let k = s.count;
     far_listed(positions, normals, n, p, &listed[..k], s.least)
 }
 
 // How far p is from a ring of n corners: the least over its edges.
 fn far_ring(positions: &[f64], normals: &[f64], n: usize, p: Vec3) -> ChordLength
-    requires { ⌜ B.Sized (now positions) (now normals) n ⌝ }
+    requires { ⌜ B.Sized (now positions) (now normals) n × B.Fine (now positions) n p ⌝ }
     ensures { λ r. ⌜ r ≡ D.farRing (now (positions .entry)) (now (normals .entry)) n p ⌝ }
 {
     let mut r = ChordLength::MAX;
@@ -267,7 +298,7 @@ fn far_ring(positions: &[f64], normals: &[f64], n: usize, p: Vec3) -> ChordLengt
 
 // How far p is from the border of a loop of n corners.
 fn far(positions: &[f64], normals: &[f64], n: usize, p: Vec3) -> ChordLength
-    requires { ⌜ B.Sized (now positions) (now normals) n ⌝ }
+    requires { ⌜ B.Sized (now positions) (now normals) n × B.Fine (now positions) n p ⌝ }
     ensures { λ r. ⌜ r ≡ D.far (now (positions .entry)) (now (normals .entry)) n p ⌝ }
 {
     if n == 0 {

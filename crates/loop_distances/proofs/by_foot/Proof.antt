@@ -8,9 +8,10 @@ unfolding byFoot
 by-foot-spec =
     tie.close
     (tie.spec
-    (λ c κs. tt) (λ c κs. tt) (λ c κs. tt)
-    (λ c. let i = c .before in
-    let h = simp (i .before .is-within .ensures, i .before .before .location .ensures) at (i .if1 .taken) in
+    (λ c κs. tt) (λ c κs. tt) (λ c κs. tt) (λ c κs. tt)
+    (λ c. let on = c .before in
+    let h = simp (on .before .is-within .ensures, on .before .before .location .ensures) at (on .if1 .taken) in
     simp (h) (c .new .ensures))
-    (λ c. let h = simp (c .before .is-within .ensures, c .before .before .location .ensures) at (c .if1 .left) in
-    simp (h)))
+    (λ c. let off = c .before in
+    let h = simp (off .before .is-within .ensures, off .before .before .location .ensures) at (off .if1 .left) in
+    simp (h) (c .nearer-end .ensures)))

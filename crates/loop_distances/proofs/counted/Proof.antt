@@ -1,15 +1,10 @@
+-- One more, unless it is settled.
 use borrow.Author.Needs.{needs}
 use Rattle.loop_distances.proofs.counted.Statement.{statement}
 use Rattle.loop_distances.proofs.counted.Tie as tie
 
-add-result : tie.Need-add-result
-add-result c = search needs
-
-returns : tie.Need-returns
-returns c = search needs
-
-returns-2 : tie.Need-returns-2
-returns-2 c = ?
-
 pub counted-spec : {M : Type 1} → statement M
-counted-spec = tie.close (tie.spec add-result returns returns-2)
+counted-spec =
+    tie.close
+    (tie.spec
+    (λ c. search needs) (λ c. simp (c .if1 .taken)) (λ c. simp (c .if1 .left)))

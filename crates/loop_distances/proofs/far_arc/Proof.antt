@@ -29,8 +29,7 @@ at-pole c =
 by-foot : tie.Need-returns-3
 unfolding farArc
 by-foot c =
-    let ends = c .before in
-    let foot = ends .before in
+    let foot = c .before in
     let apart = foot .before in
     let same = apart .before in
     let across = same .before in
@@ -40,7 +39,7 @@ by-foot c =
     let start = end .before in
     let past = simp (side .new3 .ensures, end .new2 .ensures, start .new .ensures) at (other .if1 .left) in
     let pole = simp (same .equals .ensures, across .stable-cross-prod-unit .ensures) at (apart .if2 .left) in
-    simp (past, pole, c .by-foot .ensures, ends .least2 .ensures, foot .orthogonal-to .ensures, across .stable-cross-prod-unit .ensures, end .new2 .ensures, start .new .ensures)
+    simp (past, pole, c .by-foot .ensures, foot .orthogonal-to .ensures, across .stable-cross-prod-unit .ensures)
 
 pub far-arc-spec : {M : Type 1} → statement M
 far-arc-spec =
@@ -50,5 +49,5 @@ far-arc-spec =
     past-end
     (λ c κs. tt) (λ c κs. tt)
     at-pole
-    (λ c κs. tt) (λ c κs. tt) (λ c κs. tt)
+    (λ c κs. tt) (λ c κs. tt)
     by-foot)

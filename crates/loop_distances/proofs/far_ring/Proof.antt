@@ -1,31 +1,36 @@
--- Each edge's distance is taken in, in order.
+-- Block after block, the least of the edges up to its end.
 use native.Mathlib.Omega.{arith}
 use borrow.Author.Needs.{needs}
-use Prim.Native.Nat.{_-_}
-use mathlib.Core.Path.{refl}
-use Rattle.laws.proofs.Loops.{Iterate, iterate-begin, iterate-on, iterate-end}
-use Rattle.chord_length.specs.Chords.{least}
-use Rattle.loop_distances.specs.Distances.{farEdge, farRing}
+use Prim.Native.Nat.{_-_, _≤_}
+use mathlib.Core.Path.{_≡_, refl, ap, _∙_}
+use Rattle.loop_distances.specs.Distances.{farRing}
+use Rattle.loop_distances.specs.Blocks.{leastOf}
+use Rattle.loop_distances.proofs.Parted.{least-start, least-end}
 use Rattle.loop_distances.proofs.far_ring.Statement.{statement}
 use Rattle.loop_distances.proofs.far_ring.Tie as tie
 
 abbrev Inv-loop : tie.InvT-loop
-Inv-loop positions normals n p r₀ i₀ r i = Iterate (λ j x. least x (farEdge positions normals n p j)) n i r (farRing positions normals n p)
+Inv-loop positions normals n p r₀ from₀ r from = (r ≡ leastOf positions normals n p from) × (from ≤ n)
 
 abbrev μ-loop : tie.MeasureT-loop
-μ-loop positions normals n p r₀ i₀ r i = n - i
+μ-loop positions normals n p r₀ from₀ r from = n - from
+
+far-block-requires : tie.Need-far-block-requires Inv-loop μ-loop
+far-block-requires c κs =
+    let to = c .block-end .ensures in
+    let loop = c .before .before in
+    let pre = loop .before .before .before .pre in
+    (to .1, to .2, to .3, pre .0, pre .1, loop .loop .inv .0)
 
 pub far-ring-spec : {M : Type 1} → statement M
-unfolding farRing
 far-ring-spec =
     tie.close
     (tie.spec
     Inv-loop μ-loop
-    (λ c. iterate-begin refl)
-    (λ c κs. search needs) (λ c κs. search needs) (λ c κs. search needs)
-    (λ c. search needs)
-    (λ c. search needs)
-    (λ c. let far = c .before in
-    let edge = far .before in
-    iterate-on (edge .before .before .loop .inv) (simp (c .least .ensures, far .far-arc .ensures, edge .edge .ensures)) (omega arith))
-    (λ c. iterate-end (c .before .loop .inv) (omega arith)))
+    (λ c. (least-start _ _ _ _, omega arith))
+    (λ c κs. search needs)
+    far-block-requires
+    (λ c. omega (arith, c .before .block-end .ensures .1))
+    (λ c. (c .far-block .ensures, c .before .block-end .ensures .3))
+    (λ c. let loop = c .before .loop in
+    loop .inv .0 ∙ least-end _ _ _ _ (omega (arith, loop .inv .1))))

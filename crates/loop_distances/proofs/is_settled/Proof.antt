@@ -1,12 +1,17 @@
-use borrow.Author.Needs.{needs}
+-- Surely off, or past the end.
 use Rattle.loop_distances.proofs.is_settled.Statement.{statement}
 use Rattle.loop_distances.proofs.is_settled.Tie as tie
 
-new-requires : tie.Need-new-requires
-new-requires c κs = search needs
-
-returns : tie.Need-returns
-returns c = ?
-
 pub is-settled-spec : {M : Type 1} → statement M
-is-settled-spec = tie.close (tie.spec new-requires returns)
+is-settled-spec =
+    tie.close
+    (tie.spec
+    (λ c κs. tt) (λ c κs. tt) (λ c κs. tt)
+    (λ c. let tests = c .before in
+    let h = simp (tests .is-beyond .ensures, tests .before .is-upright .ensures, tests .before .before .is-tame .ensures) at (c .if1 .taken) in
+    simp (h))
+    (λ c κs. tt)
+    (λ c. let side = c .before .before .before in
+    let tests = side .before .before in
+    let h = simp (tests .is-beyond .ensures, tests .before .is-upright .ensures, tests .before .before .is-tame .ensures) at (side .before .if1 .left) in
+    simp (h, side .new .ensures)))

@@ -1,18 +1,10 @@
-use borrow.Author.Needs.{needs}
+-- The least of the two ends' squared chords.
 use Rattle.loop_distances.proofs.nearer_end.Statement.{statement}
 use Rattle.loop_distances.proofs.nearer_end.Tie as tie
 
-new-requires : tie.Need-new-requires
-new-requires c κs = search needs
-
-new-requires-2 : tie.Need-new-requires-2
-new-requires-2 c κs = search needs
-
-least-requires : tie.Need-least-requires
-least-requires c κs = search needs
-
-returns : tie.Need-returns
-returns c = ?
-
 pub nearer-end-spec : {M : Type 1} → statement M
-nearer-end-spec = tie.close (tie.spec new-requires new-requires-2 least-requires returns)
+nearer-end-spec =
+    tie.close
+    (tie.spec
+    (λ c κs. tt) (λ c κs. tt) (λ c κs. tt)
+    (λ c. simp (c .least .ensures, c .before .new2 .ensures, c .before .before .new .ensures)))

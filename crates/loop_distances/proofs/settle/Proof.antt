@@ -1,65 +1,95 @@
+-- Each edge of the block is taken in, or listed.
+use native.Mathlib.Omega.{arith}
+use borrow.Author.Needs.{needs}
+use Prim.Native.Nat.{_-_, _≤_}
+use mathlib.Core.Path.{refl}
+use Rattle.loop_distances.proofs.Settles.{Going, going, going-on, going-end}
 use Rattle.loop_distances.proofs.settle.Statement.{statement}
 use Rattle.loop_distances.proofs.settle.Tie as tie
 
 abbrev Inv-loop : tie.InvT-loop
-Inv-loop positions normals n from to p listed₀ r₀ k₀ start₀ chord₀ i₀ listed r k start chord i = ?
+Inv-loop positions normals n from to p listed₀ r₀ k₀ start₀ chord₀ i₀ listed r k start chord i =
+    Going positions normals n from to p r₀ listed₀ listed r k start chord i
 
 abbrev μ-loop : tie.MeasureT-loop
-μ-loop positions normals n from to p listed₀ r₀ k₀ start₀ chord₀ i₀ listed r k start chord i = ?
+μ-loop positions normals n from to p listed₀ r₀ k₀ start₀ chord₀ i₀ listed r k start chord i = to - i
 
 at-requires : tie.Need-at-requires Inv-loop μ-loop
-at-requires c κs = ?
-
-new-requires : tie.Need-new-requires Inv-loop μ-loop
-new-requires c κs = ?
+at-requires c κs =
+    let pre = c .before .before .before .pre in
+    omega (arith, pre .0, pre .2, pre .3 .positions)
 
 loop-holds : tie.Need-loop-holds Inv-loop μ-loop
-loop-holds c = ?
+loop-holds c =
+    let pre = c .before .before .before .before .before .pre in
+    going _ _ _ _ _ _ _ (c .before .at .ensures) (c .new .ensures) (pre .0) (pre .2)
 
 next-requires : tie.Need-next-requires Inv-loop μ-loop
-next-requires c κs = ?
+next-requires c κs =
+    let pre = c .before .before .before .before .before .before .before .pre in
+    (omega (arith, pre .2), pre .3 .few)
 
 at-requires-2 : tie.Need-at-requires-2 Inv-loop μ-loop
-at-requires-2 c κs = ?
+at-requires-2 c κs =
+    let pre = c .before .before .before .before .before .before .before .before .pre in
+    omega (arith, c .next .ensures .1, pre .3 .positions)
 
 at-requires-3 : tie.Need-at-requires-3 Inv-loop μ-loop
-at-requires-3 c κs = ?
-
-new-requires-2 : tie.Need-new-requires-2 Inv-loop μ-loop
-new-requires-2 c κs = ?
-
-is-settled-requires : tie.Need-is-settled-requires Inv-loop μ-loop
-is-settled-requires c κs = ?
-
-least-requires : tie.Need-least-requires Inv-loop μ-loop
-least-requires c κs = ?
-
-taken-requires : tie.Need-taken-requires Inv-loop μ-loop
-taken-requires c κs = ?
+at-requires-3 c κs =
+    let pre = c .before .before .before .before .before .before .before .before .before .pre in
+    omega (arith, pre .2, pre .3 .normals)
 
 mul-listed : tie.Need-mul-listed Inv-loop μ-loop
-mul-listed c = ?
-
-slice-write-listed : tie.Need-slice-write-listed Inv-loop μ-loop
-slice-write-listed c = ?
-
-counted-requires : tie.Need-counted-requires Inv-loop μ-loop
-counted-requires c κs = ?
+mul-listed c =
+    let loop = c .before .before .before .before .before .before .before .before in
+    let pre = loop .before .before .before .before .before .before .pre in
+    let w = loop .loop .inv in
+    let small : loop .loop .k ≤ 512 = omega (arith, pre .2, pre .3 .few, w .few, w .within) in
+    search needs
 
 add-i : tie.Need-add-i Inv-loop μ-loop
-add-i c = ?
+add-i c =
+    let loop = c .before .before .before .before .before .before .before .before .before in
+    let pre = loop .before .before .before .before .before .before .pre in
+    let w = loop .loop .inv in
+    let small : loop .loop .i ≤ 512 = omega (arith, pre .2, pre .3 .few, w .within) in
+    search needs
 
-loop-less : tie.Need-loop-less Inv-loop μ-loop
-loop-less c = ?
+slice-write-listed : tie.Need-slice-write-listed Inv-loop μ-loop
+slice-write-listed c =
+    let loop = c .before .before .before .before .before .before .before .before in
+    let pre = loop .before .before .before .before .before .before .pre in
+    let w = loop .loop .inv in
+    let here = c .before .before .before .before .before .before .before .loop-test in
+    omega (arith, here .taken, pre .1, w .few, w .size, w .begun)
+
+counted-requires : tie.Need-counted-requires Inv-loop μ-loop
+counted-requires c κs =
+    let loop = c .before .before .before .before .before .before .before .before in
+    let pre = loop .before .before .before .before .before .before .pre in
+    let w = loop .loop .inv in
+    omega (arith, pre .2, pre .3 .few, w .few, w .within)
 
 loop-again : tie.Need-loop-again Inv-loop μ-loop
-loop-again c = ?
-
-same-length : tie.Need-same-length Inv-loop μ-loop
-same-length c = ?
+loop-again c =
+    let take = c .before in
+    let nearer = take .before in
+    let test = nearer .before in
+    let chord = test .before in
+    let normal = chord .before in
+    let end = normal .before in
+    let next = end .before in
+    let loop = next .before .before in
+    let pre = loop .before .before .before .before .before .before .pre in
+    going-on _ _ _ _ _ _ _ (loop .loop .inv) (omega arith) (pre .2)
+    (simp (next .next .ensures .0) at (end .at2 .ensures)) (normal .at3 .ensures) (chord .new2 .ensures) (test .is-settled .ensures)
+    (simp (nearer .least .ensures) at (take .taken .ensures)) refl (c .counted .ensures) (pre .1)
 
 returns : tie.Need-returns Inv-loop μ-loop
-returns c = ?
+returns c =
+    let loop = c .before in
+    let pre = loop .before .before .before .before .before .before .pre in
+    going-end _ _ _ _ _ _ _ (loop .loop .inv) (omega arith) (pre .1)
 
 pub settle-spec : {M : Type 1} → statement M
 settle-spec =
@@ -68,20 +98,20 @@ settle-spec =
     Inv-loop
     μ-loop
     at-requires
-    new-requires
+    (λ c κs. search needs)
     loop-holds
     next-requires
     at-requires-2
     at-requires-3
-    new-requires-2
-    is-settled-requires
-    least-requires
-    taken-requires
+    (λ c κs. search needs)
+    (λ c κs. search needs)
+    (λ c κs. search needs)
+    (λ c κs. search needs)
     mul-listed
     slice-write-listed
     counted-requires
     add-i
-    loop-less
+    (λ c. search needs)
     loop-again
-    same-length
+    (λ c. search needs)
     returns)

@@ -1,15 +1,11 @@
-use borrow.Author.Needs.{needs}
+-- The least of both where it is settled, else what there was.
 use Rattle.loop_distances.proofs.taken.Statement.{statement}
 use Rattle.loop_distances.proofs.taken.Tie as tie
 
-least-requires : tie.Need-least-requires
-least-requires c κs = search needs
-
-returns : tie.Need-returns
-returns c = ?
-
-returns-2 : tie.Need-returns-2
-returns-2 c = search needs
-
 pub taken-spec : {M : Type 1} → statement M
-taken-spec = tie.close (tie.spec least-requires returns returns-2)
+taken-spec =
+    tie.close
+    (tie.spec
+    (λ c κs. tt)
+    (λ c. simp (c .before .if1 .taken) (c .least .ensures))
+    (λ c. simp (c .if1 .left)))

@@ -193,8 +193,10 @@ pub fn arcs(t: &mut Tally, r: &mut Random, n: usize) {
         let kind = i % FROM_ARC.len();
         let (mut a, p) = arc_and_position(r, kind);
         let mut p = bytes(p);
+        // Both at once: which is judged first shows.
+        let both = r.chance(40);
         for one in [&mut a, &mut p] {
-            if r.chance(30) {
+            if both || r.chance(30) {
                 *one = damage(r, std::mem::take(one));
             }
             if r.chance(60) {

@@ -1,4 +1,4 @@
-/* Calls one export N times on one loop, for oracle/count: count EXPORT SHAPE CORNERS TIMES. What is built, placed, paired or cut is a convex
+/* Calls one export N times on one loop, for oracle/count: count EXPORT SHAPE CORNERS TIMES. What is built, placed, measured, paired or cut is a convex
    polygon or a star round one centre; the pair is the same loop a little smaller, so that every edge is compared. */
 #include "../exports/desk.h"
 #include <math.h>
@@ -37,6 +37,7 @@ static void make(Loop *l, int star, size_t n, double size) {
 int main(int argc, char **argv) {
     static Loop a, b;
     static uint16_t triangles[1530];
+    static double distance[1];
     if (argc != 5)
         return 2;
     int star = !strcmp(argv[2], "star");
@@ -49,6 +50,8 @@ int main(int argc, char **argv) {
             r = desk_build((uint8_t *)a.list, 24 * n, a.bytes, a.size);
         else if (!strcmp(argv[1], "desk_place"))
             r = desk_place(a.bytes, a.size, (uint8_t *)centre, 24);
+        else if (!strcmp(argv[1], "desk_far"))
+            r = desk_far(a.bytes, a.size, (uint8_t *)centre, 24, (uint8_t *)distance, 8);
         else if (!strcmp(argv[1], "desk_pair"))
             r = desk_pair(a.bytes, a.size, b.bytes, b.size);
         else if (!strcmp(argv[1], "desk_triangles"))
@@ -57,6 +60,8 @@ int main(int argc, char **argv) {
             r = build(&a);
         else if (!strcmp(argv[1], "desk_place_f64"))
             r = desk_place_f64(a.header, 88, a.positions, 3 * n, a.normals, 3 * n, a.classes, n, centre[0], centre[1], centre[2]);
+        else if (!strcmp(argv[1], "desk_far_f64"))
+            r = desk_far_f64(a.header, 88, a.positions, 3 * n, a.normals, 3 * n, a.classes, n, centre[0], centre[1], centre[2], distance, 1);
         else if (!strcmp(argv[1], "desk_pair_f64"))
             r = desk_pair_f64(a.header, 88, a.positions, 3 * n, a.normals, 3 * n, a.classes, n, b.header, 88, b.positions, 3 * n, b.normals, 3 * n, b.classes, n);
         else

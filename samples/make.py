@@ -23,6 +23,10 @@ def place(number, p):
     return record(2, struct.pack('<H', number) + position(p))
 
 
+def far(number, p):
+    return record(4, struct.pack('<H', number) + position(p))
+
+
 def pair(a, b):
     return record(3, struct.pack('<HH', a, b))
 
@@ -91,7 +95,7 @@ scenes = [
     ('cut short in its body', A + pair(1, 1)[:-1]),
     ('cut short: a length near 2^32', A + struct.pack('<IH', 0xFFFFFFFF, 3) + b'\x01\x00\x01\x00'),
     ('kind 0', A + record(0, b'')),
-    ('kind 4', A + record(4, b'\x01\x00')),
+    ('kind 9', A + record(9, b'\x01\x00')),
     ('kind 257', record(257, b'\x01\x00')),
     ('an area without its number', record(1, b'')),
     ('an area with 23 bytes of a position', record(1, bytes(25))),
@@ -123,7 +127,7 @@ scenes = [
     ('cut short, of an unknown kind: 20 before 21', A + record(9, b'\x01\x00')[:-1]),
     ('cut short, of a wrong length: 20 before 22', A + record(3, b'\x01\x00\x01')[:-1]),
     ('cut short, its number 0: 20 before 23', A + pair(0, 1)[:-1]),
-    ('an unknown kind of a length that no kind has: 21 before 22', A + record(4, bytes(3))),
+    ('an unknown kind of a length that no kind has: 21 before 22', A + record(9, bytes(3))),
     ('an area of 1 byte', A + record(1, b'\x02')),
     ('a pair of 0 and 1, a byte too long: 22 before 23', A + record(3, bytes([0, 0, 1, 0, 0]))),
     ('an area repeated, a byte too long: 22 before 24', A + record(1, b'\x01\x00\x00')),
@@ -157,6 +161,29 @@ scenes = [
     ('a closing position that equals a faulty first one: index 0', A + area(2, [FAR, X, Y, FAR])),
     ('refusal 4 of a position behind the closing one', A + area(2, [X, Y, Z, X, (0.0, 0.0, 0.0)])),
     ('nothing is read after a refusal', A + pair(1, 9) + area(9, [X, Y, Z]) + record(9, b'') + b'\x00'),
+    # how far a position is from an area's border (SCOPE 52)
+    ('how far from three corners: inside, outside, on an edge, at a corner, behind', A
+     + join(far(1, p) for p in ((0.48, 0.6, 0.64), (0.6, 0.0, 0.8), (0.6, 0.8, 0.0), X, Y, Z, W, unit(1, 1, 1), unit(-1, -1, -1), unit(1, 1, -0.1)))),
+    ('how far from rings: each corner, and others', area(7, SQUARE) + area(13, STAR) + area(12, EIGHT) + area(65535, SQUARE[::-1])
+     + join(far(n, p) for n in (7, 13, 12, 65535) for p in (Z, W, X, unit(1, 0.1, 0.1), unit(0.1, 0.2, 1)))
+     + join(far(7, p) for p in SQUARE) + join(far(13, p) for p in STAR)),
+    ('how far from mute rings', join(area(k + 1, l) for k, l in enumerate(MUTES))
+     + join(far(k + 1, p) for k in range(len(MUTES)) for p in (unit(1, 2, 3), unit(-3, 1, -2), X))),
+    ('how far from an empty and a full area: 0', area(7, []) + area(8, [X, Y]) + area(9, FULL) + area(10, [X] * 4)
+     + join(far(n, p) for n in (7, 8, 9, 10) for p in (X, W))),
+    ('how far from 512 corners', area(1, round_pole(512, 0.5)) + far(1, Z) + far(1, W) + far(1, unit(0.5, 0.001, 1)) + place(1, Z)),
+    ('a far of 24 bytes', A + record(4, position(Z))),
+    ('a far of 27 bytes', A + record(4, b'\x01\x00' + position(Z) + b'\x00')),
+    ('a far of 2 bytes, its number 0: 22 before 23', A + record(4, bytes(2))),
+    ('a far cut short', A + far(1, Z)[:-1]),
+    ('a far from area 0, before its NaN', A + far(0, NAN)),
+    ('a far from an area not yet met, before its NaN', A + far(2, NAN)),
+    ('a far from an area that comes later', far(1, Z) + A),
+    ('refusal 3 of a far', A + far(1, Z) + far(1, (0.0, float('-inf'), 0.0)) + pair(1, 1)),
+    ('refusal 4 of a far', A + far(1, FAR)),
+    ('1,024 positions: fars do not count', area(1, [X] * 512) + area(2, [X] * 511) + far(1, X) + far(2, X) + area(3, [X]) + far(3, Y)),
+    ('kind 5, of a length that a far has', A + record(5, b'\x01\x00' + position(Z))),
+    ('kind 260', A + record(260, b'\x01\x00' + position(Z))),
 ]
 
 

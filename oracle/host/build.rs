@@ -1,4 +1,4 @@
-// Links the probes, libtest_probes.a, beside the exports that `desk` links. The stand-in has them in its libexports.a.
+// Links the probes, libtest_probes.a, beside the exports that `desk` links. The stand-in has them in its libdesk.a.
 include!("../desk/link.rs");
 
 const NAMES: [&str; 4] = ["leaf_vec", "leaf_number", "leaf_case", "leaf_cap"];
@@ -14,5 +14,5 @@ fn main() {
         say(&NAMES, &probes);
         return;
     }
-    say(&NAMES, &defined(&dir, "exports"));
+    say(&NAMES, &defined(&dir, "desk"));
 }

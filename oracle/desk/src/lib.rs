@@ -119,6 +119,56 @@ fn position(b: &[u8]) -> Position {
     std::array::from_fn(|i| f64::from_le_bytes(b[8 * i..8 * i + 8].try_into().unwrap()))
 }
 
+/// How long a chord is, kept as its square, from 0 to 4. It orders distances as their angles do, but it is no angle: `to_angle` has that.
+#[derive(Clone, Copy, Debug, PartialEq, PartialOrd)]
+pub struct ChordLength(f64);
+
+impl ChordLength {
+    /// A squared chord that is known; no number is refused here.
+    pub fn of_length2(length2: f64) -> ChordLength {
+        ChordLength(length2)
+    }
+
+    /// The chord's square.
+    pub fn length2(self) -> f64 {
+        self.0
+    }
+
+    /// The angle from one end of the chord to the other, seen from the centre: -1 radians of a square below 0, NaN of one that is too large.
+    pub fn to_angle(self) -> Answered<Angle> {
+        let radians = raw::desk_radians(self.0.to_bits()).ok_or(Error::Absent)?;
+        Ok(Angle(f64::from_bits(radians)))
+    }
+}
+
+impl Display for ChordLength {
+    fn fmt(&self, f: &mut Formatter) -> fmt::Result {
+        write!(f, "squared chord {}", self.0)
+    }
+}
+
+/// An angle.
+#[derive(Clone, Copy, Debug, PartialEq, PartialOrd)]
+pub struct Angle(f64);
+
+impl Angle {
+    /// In radians.
+    pub fn as_radians(self) -> f64 {
+        self.0
+    }
+}
+
+impl Display for Angle {
+    fn fmt(&self, f: &mut Formatter) -> fmt::Result {
+        write!(f, "{} radians", self.0)
+    }
+}
+
+/// The squared chord that a call wrote.
+fn chord(word: Option<u32>, out: [u8; 8]) -> Answered<ChordLength> {
+    answered(word).map(|_| ChordLength(f64::from_le_bytes(out)))
+}
+
 /// The 12 positions that a full loop's triangles number.
 pub fn full_positions() -> Answered<[Position; 12]> {
     let mut out = [0.0; 36];
@@ -240,6 +290,13 @@ impl Loop {
             1 => Place::Inside,
             _ => Place::Mute,
         })
+    }
+
+    /// How far a position is from the border, inside or outside: 0 from an empty and from a full loop, which have none. Next to a corner it
+    /// may be off by last bits.
+    pub fn distance_to_boundary(&self, p: Position) -> Answered<ChordLength> {
+        let mut out = [0; 8];
+        chord(raw::desk_far(&self.0, &bytes(p), &mut out), out)
     }
 
     /// How this loop stands to another.
@@ -404,6 +461,12 @@ impl Arc {
     /// Whether the position is on the arc.
     pub fn contains(&self, p: Position) -> Answered<bool> {
         yes(raw::desk_arc_contains(&self.0, &bytes(p)))
+    }
+
+    /// How far a position is from the arc.
+    pub fn distance_to(&self, p: Position) -> Answered<ChordLength> {
+        let mut out = [0; 8];
+        chord(raw::desk_arc_far(&self.0, &bytes(p), &mut out), out)
     }
 
     /// Where two arcs meet, if they do in one point.

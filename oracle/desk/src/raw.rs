@@ -111,4 +111,13 @@ exports! {
     has_desk_full_positions desk_full_positions(out: out_floats) -> u32;
     /// How many bytes of text a scene has, written to `out`: a size, so that a refusal is 2^32 plus its number.
     has_desk_scene desk_scene(scene: bytes, out: out_bytes) -> u64;
+    /// The radians of a squared chord, in f64 bits.
+    has_desk_radians desk_radians(c: word) -> u64;
+    /// 0, with the squared chord from the position to the loop's border in `out`.
+    has_desk_far desk_far(of: bytes, position: bytes, out: out_bytes) -> u32;
+    /// 0, with the squared chord from the position to the arc in `out`.
+    has_desk_arc_far desk_arc_far(arc: bytes, position: bytes, out: out_bytes) -> u32;
+    /// As `desk_far`, on parts.
+    has_desk_far_f64 desk_far_f64(header: bytes, positions: floats, normals: floats, classes: bytes,
+        x: float, y: float, z: float, out: out_floats) -> u32;
 }

@@ -1,8 +1,8 @@
-//! The safe face over the library itself. Nothing here passes without it: `oracle/ci` links target/staticlib/libexports.a on
-//! x86-64, and elsewhere the same module as `oracle/native` compiles it for that machine.
+//! The safe face over the library itself. Nothing here passes without it: `oracle/ci` links target/staticlib/libdesk.a on
+//! x86-64, and elsewhere the same modules as `oracle/native` compiles them for that machine.
 use desk::{
-    Arc, ArcRelation, Ending, Error, Loop, MOST_SCENE_BYTES, MOST_TEXT_BYTES, Place, Position, Refusal, Relation, Side,
-    full_positions, raw, scene,
+    Arc, ArcRelation, ChordLength, Ending, Error, Loop, MOST_SCENE_BYTES, MOST_TEXT_BYTES, Place, Position, Refusal,
+    Relation, Side, full_positions, raw, scene,
 };
 
 const X: Position = [1.0, 0.0, 0.0];
@@ -29,7 +29,7 @@ fn asked(bytes: &[u8]) -> u32 {
 
 #[test]
 fn the_library_is_linked() {
-    assert!(raw::LINKED, "link libexports.a: rt staticlib exports, or oracle/native and DESK_LIB_DIR");
+    assert!(raw::LINKED, "link libdesk.a: exports/library, or oracle/native and DESK_LIB_DIR");
     assert!(!raw::STANDIN, "the stand-in is not the library");
 }
 
@@ -160,6 +160,71 @@ fn arcs() {
     refused(4, Arc::new(X, [0.0; 3]));
 }
 
+#[test]
+fn how_far() {
+    let a = built(&[X, Y, Z]);
+    let inside = a.distance_to_boundary([0.48, 0.6, 0.64]).unwrap();
+    assert_eq!(inside.length2().to_bits(), 0x3FCF_6B55_1652_38B9);
+    assert_eq!(a.distance_to_boundary(X).unwrap().to_string(), "squared chord 0");
+    assert_eq!(a.distance_to_boundary(W).unwrap(), ChordLength::of_length2(2.0));
+    assert!(a.distance_to_boundary([0.6, 0.8, 0.0]).unwrap() < inside);
+    assert!(built(&SILENT).distance_to_boundary([0.28, 0.0, 0.96]).unwrap() > inside, "a mute loop has a border");
+    for without in [built(&[]), built(&[X, [0.6, 0.8, 0.0], Y])] {
+        assert_eq!(without.distance_to_boundary(Z).unwrap().length2().to_bits(), 0);
+    }
+    let arc = Arc::new(X, Y).unwrap();
+    assert_eq!(arc.distance_to(Z).unwrap().length2(), 2.0);
+    assert_eq!(arc.distance_to([-1.0, 0.0, 0.0]).unwrap().length2(), 2.0);
+    assert_eq!(arc.distance_to([0.6, 0.8, 0.0]).unwrap().length2(), 0.0);
+    for (n, p) in [(3, NAN), (4, FAR)] {
+        refused(n, a.distance_to_boundary(p));
+        refused(n, arc.distance_to(p));
+    }
+}
+
+/// A squared chord is no angle: 0 and 4 are the ends of both, and nothing between them is the same.
+#[test]
+fn chords_have_angles() {
+    let radians = |c: f64| ChordLength::of_length2(c).to_angle().unwrap().as_radians();
+    let pi = std::f64::consts::PI;
+    assert_eq!((radians(0.0).to_bits(), radians(-0.0).to_bits()), (0, 1 << 63));
+    assert_eq!((radians(4.0), radians(4.0_f64.next_up()), radians(-5e-324)), (pi, pi, -1.0));
+    assert!(radians(4.0_f64.next_up().next_up()).is_nan() && radians(f64::NAN).is_nan());
+    assert!((radians(2.0) - pi / 2.0).abs() < 1e-13 && (radians(1.0) - pi / 3.0).abs() < 1e-13);
+    assert_eq!(raw::desk_radians(f64::INFINITY.to_bits()), Some(0x7FF8_0000_0000_0000));
+    assert_eq!(ChordLength::of_length2(4.0).to_angle().unwrap().to_string(), "3.141592653589793 radians");
+}
+
+#[test]
+fn a_distance_needs_room() {
+    let a = built(&[X, Y, Z]);
+    let p: Vec<u8> = W.iter().flat_map(|c| c.to_le_bytes()).collect();
+    let arc: Vec<u8> = [X, Y, Z].iter().flatten().flat_map(|c| c.to_le_bytes()).collect();
+    let mut out = [7; 12];
+    assert_eq!(raw::desk_far(a.bytes(), &p, &mut out[..7]), Some(65_541));
+    assert_eq!(raw::desk_arc_far(&arc, &p, &mut out[..0]), Some(65_541));
+    assert_eq!(out, [7; 12]);
+    let two = [0, 0, 0, 0, 0, 0, 0, 64, 7, 7, 7, 7];
+    assert_eq!((raw::desk_far(a.bytes(), &p, &mut out), out), (Some(0), two));
+    out = [7; 12];
+    assert_eq!((raw::desk_arc_far(&arc, &p, &mut out), out), (Some(0), two));
+    assert_eq!(raw::desk_arc_far(&arc[..71], &p, &mut out), Some(65_537));
+    assert_eq!(raw::desk_far(a.bytes(), &p[..23], &mut out), Some(65_537));
+}
+
+#[test]
+fn a_distance_in_parts() {
+    let a = built(&[X, Y, Z]);
+    let (header, rest) = a.bytes().split_at(88);
+    let floats: Vec<f64> = rest[..144].chunks(8).map(|b| f64::from_le_bytes(b.try_into().unwrap())).collect();
+    let far = |p: Position, out: &mut [f64]| {
+        raw::desk_far_f64(header, &floats[..9], &floats[9..], &rest[144..], p[0], p[1], p[2], out)
+    };
+    let mut out = [7.0; 2];
+    assert_eq!((far(NAN, &mut []), far(FAR, &mut []), far(W, &mut [])), (Some(65_539), Some(65_540), Some(65_541)));
+    assert_eq!((far(W, &mut out), out), (Some(0), [2.0, 7.0]));
+}
+
 const NAN: Position = [f64::NAN, 0.0, 0.0];
 const FAR: Position = [2.0, 0.0, 0.0];
 
@@ -183,6 +248,13 @@ fn place(number: u16, p: Position) -> Vec<u8> {
     r
 }
 
+/// So has a far.
+fn far(number: u16, p: Position) -> Vec<u8> {
+    let mut r = area(number, &[p]);
+    r[4] = 4;
+    r
+}
+
 /// What is said of area 1 (80 bytes) and then of these records.
 fn after_one(records: &[u8]) -> String {
     scene(&[&area(1, &[X, Y, Z])[..], records].concat()).unwrap()
@@ -197,6 +269,8 @@ fn a_scene_is_told() {
     let lines =
         ["area 1 3 ring reversed steady 1", "area 2 3 ring kept steady 1", "place 1 inside", "pair 2 1 touching"];
     assert_eq!(text, format!("{}\nend 4\n", lines.join("\n")));
+    let text = after_one(&[far(1, [0.48, 0.6, 0.64]), area(7, &[]), far(7, Z)].concat());
+    assert!(text.ends_with("\nfar 1 3FCF6B55165238B9\narea 7 0 empty kept steady 0\nfar 7 0000000000000000\nend 4\n"));
     assert_eq!(scene(&[]).unwrap(), "end 0\n");
 }
 
@@ -214,11 +288,16 @@ fn a_refused_scene_has_parts() {
         (place(1, FAR), parts(4, 80, 86, Some(0))),
         (seven.concat(), parts(7, 240, 246, None)),
         (pair(1, 1)[..9].to_vec(), parts(20, 80, 89, None)),
-        (record(4, &[1, 0]), parts(21, 80, 84, None)),
+        (far(1, NAN), parts(3, 80, 86, Some(0))),
+        (far(1, FAR), parts(4, 80, 86, Some(0))),
+        (record(5, &[1, 0]), parts(21, 80, 84, None)),
+        (record(4, &[1, 0]), parts(22, 80, 80, None)),
         (record(3, &[0; 3]), parts(22, 80, 80, None)),
         (pair(9, 0), parts(23, 80, 88, None)),
         (area(1, &[NAN]), parts(24, 80, 86, None)),
         (pair(1, 9), parts(25, 80, 88, None)),
+        (far(0, NAN), parts(23, 80, 86, None)),
+        (far(9, NAN), parts(25, 80, 86, None)),
         (areas, parts(26, 200, 206, None)),
         (area(2, &[NAN; 1_022]), parts(27, 80, 80, None)),
     ] {

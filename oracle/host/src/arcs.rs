@@ -10,7 +10,7 @@ pub fn arc(start: P, end: P) -> Vec<u8> {
     out
 }
 
-fn ends(r: &mut Random) -> (P, P) {
+pub fn ends(r: &mut Random) -> (P, P) {
     let a = r.position();
     match r.below(8) {
         0 => (a, a),
@@ -74,16 +74,16 @@ fn two(r: &mut Random) -> [P; 4] {
     }
 }
 
-fn set_normal(arc: &mut [u8], n: P) {
+pub fn set_normal(arc: &mut [u8], n: P) {
     arc[48..72].copy_from_slice(&bytes(n));
 }
 
-fn normal(arc: &[u8]) -> P {
+pub fn normal(arc: &[u8]) -> P {
     std::array::from_fn(|i| f64::from_le_bytes(arc[48 + 8 * i..56 + 8 * i].try_into().unwrap()))
 }
 
 /// A normal that the arc was not built with.
-fn alter(r: &mut Random, arc: &mut [u8]) {
+pub fn alter(r: &mut Random, arc: &mut [u8]) {
     let n = normal(arc);
     let with = match r.below(9) {
         0 => neg(n),
@@ -125,7 +125,7 @@ pub fn damage(r: &mut Random, mut b: Vec<u8>) -> Vec<u8> {
 }
 
 /// Two of: a position that is not finite, one out of range, a normal that is not finite.
-fn two_faults(r: &mut Random, b: &mut [u8]) {
+pub fn two_faults(r: &mut Random, b: &mut [u8]) {
     for _ in 0..2 {
         let at = 24 * r.below((b.len() / 24).max(1));
         if b.len() < at + 24 {

@@ -74,6 +74,10 @@ impl Both {
         desk::raw::desk_place_f64(&self.header, &self.positions, &self.normals, &self.classes, p[0], p[1], p[2])
     }
 
+    fn far(&self, p: P, out: &mut [f64]) -> Option<u32> {
+        desk::raw::desk_far_f64(&self.header, &self.positions, &self.normals, &self.classes, p[0], p[1], p[2], out)
+    }
+
     fn pair(&self, o: &Both) -> Option<u32> {
         desk::raw::desk_pair_f64(
             &self.header,
@@ -126,6 +130,14 @@ fn one_size(star: bool, n: usize) {
         black_box(a.rust.contains_position(black_box(q)));
     });
     line("place inside", name, n, timed(|| a.place(black_box(p))), rust);
+    // Every edge is asked wherever the position lies; outside, an end decides more of them, which is quicker.
+    for (what, p) in [("far inside", p), ("far outside", outside())] {
+        let (q, mut out) = (nvector(p), [0.0]);
+        let rust = nanos(|| {
+            black_box(a.rust.distance_to_boundary(black_box(q)));
+        });
+        line(what, name, n, timed(|| a.far(black_box(p), &mut out)), rust);
+    }
     let pairs = [
         ("pair crossing", Both::of(&shape(star, n, crate::random::around(CENTRE, 1.1, 0.31), 0.3))),
         ("pair nested", Both::of(&shape(star, n, crate::random::around(CENTRE, 2.2, 0.001), 0.1))),
@@ -148,6 +160,11 @@ fn one_size(star: bool, n: usize) {
     let mut out = vec![0; 3 * n];
     let rust = nanos(|| drop(black_box(a.rust.triangulate())));
     line("triangles", name, n, timed(|| a.triangles(&mut out)), rust);
+}
+
+/// Beside the loop and away from it, in line with no corner.
+fn outside() -> P {
+    crate::random::around(CENTRE, 0.123, 0.6)
 }
 
 /// A long thin loop, whose cap is far larger than itself.
@@ -203,20 +220,22 @@ pub fn repeat(who: &str, what: &str, star: bool, n: usize, times: usize) {
     let c = Both::of(&shape(star, n, crate::random::around(CENTRE, 1.1, 0.31), 0.3));
     let p = crate::random::around(CENTRE, 0.123, 0.017);
     let q = nvector(p);
-    let mut out = vec![0; 3 * n];
+    let (mut out, mut distance) = (vec![0; 3 * n], [0.0]);
     for _ in 0..times {
         match (who, what) {
             ("ours", "build") => drop(black_box(a.build())),
             ("ours", "place") => drop(black_box(a.place(black_box(p)))),
+            ("ours", "far") => drop(black_box(a.far(black_box(p), &mut distance))),
             ("ours", "pair") => drop(black_box(a.pair(black_box(&b)))),
             ("ours", "crossing") => drop(black_box(a.pair(black_box(&c)))),
             ("ours", "triangles") => drop(black_box(a.triangles(&mut out))),
             ("rust", "build") => drop(black_box(Loop::new(black_box(&a.vs)))),
             ("rust", "place") => drop(black_box(a.rust.contains_position(black_box(q)))),
+            ("rust", "far") => drop(black_box(a.rust.distance_to_boundary(black_box(q)))),
             ("rust", "pair") => drop(black_box(a.rust.relate(black_box(&b.rust)))),
             ("rust", "crossing") => drop(black_box(a.rust.relate(black_box(&c.rust)))),
             ("rust", "triangles") => drop(black_box(a.rust.triangulate())),
-            _ => panic!("ours or rust; build, place, pair, crossing or triangles"),
+            _ => panic!("ours or rust; build, place, far, pair, crossing or triangles"),
         }
     }
 }

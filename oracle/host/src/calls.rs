@@ -8,16 +8,18 @@ pub enum Export {
     Root, Atan2, Build, Place, Pair, Triangles, Accepts, Convex, Simple, Vertex, OnEdge, Equivalent,
     Arc, ArcOpposite, ArcSide, ArcContains, ArcIntersection, ArcRelate,
     BuildF64, PlaceF64, PairF64, TrianglesF64, FullPositions, LeafVec, LeafNumber, LeafCase, LeafCap, Scene,
+    Radians, Far, ArcFar, FarF64,
 }
 
 impl Export {
     #[rustfmt::skip]
-    pub const ALL: [Export; 28] = {
+    pub const ALL: [Export; 32] = {
         use Export::*;
         [
             Root, Atan2, Build, Place, Pair, Triangles, Accepts, Convex, Simple, Vertex, OnEdge, Equivalent,
             Arc, ArcOpposite, ArcSide, ArcContains, ArcIntersection, ArcRelate,
             BuildF64, PlaceF64, PairF64, TrianglesF64, FullPositions, LeafVec, LeafNumber, LeafCase, LeafCap, Scene,
+            Radians, Far, ArcFar, FarF64,
         ]
     };
 }
@@ -85,6 +87,16 @@ impl Arg {
             Arg::OutShorts(_) => {
                 Arg::OutShorts(data.chunks_exact(2).map(|c| u16::from_le_bytes([c[0], c[1]])).collect())
             }
+        }
+    }
+
+    /// How many bytes a slice has; none of a number.
+    pub fn size(&self) -> Option<usize> {
+        match self {
+            Arg::Bytes(b) | Arg::OutBytes(b) => Some(b.len()),
+            Arg::Floats(f) | Arg::OutFloats(f) => Some(8 * f.len()),
+            Arg::OutShorts(s) => Some(2 * s.len()),
+            _ => None,
         }
     }
 
@@ -169,6 +181,13 @@ macro_rules! dispatch {
             (Export::LeafCase, [Int(op), Floats(i)]) => to::leaf_case(*op, i).value(),
             (Export::LeafCap, [Floats(l), OutFloats(o)]) => to::leaf_cap(l, o).value(),
             (Export::Scene, [Bytes(i), OutBytes(o)]) => to::desk_scene(i, o).value(),
+            (Export::Radians, [Word(c)]) => to::desk_radians(*c).value(),
+            (Export::Far, [Bytes(l), Bytes(p), OutBytes(o)]) => to::desk_far(l, p, o).value(),
+            (Export::ArcFar, [Bytes(a), Bytes(p), OutBytes(o)]) => to::desk_arc_far(a, p, o).value(),
+            (
+                Export::FarF64,
+                [Bytes(h), Floats(p), Floats(n), Bytes(c), Float(x), Float(y), Float(z), OutFloats(o)],
+            ) => to::desk_far_f64(h, p, n, c, *x, *y, *z, o).value(),
             _ => panic!("{:?} takes other arguments", $call.export),
         };
         value.map(|value| Answer { value, outs: args.iter().filter(|a| a.is_out()).filter_map(Arg::bytes).collect() })

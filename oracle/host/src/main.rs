@@ -5,6 +5,7 @@ mod calls;
 mod constants;
 mod cuts;
 mod exact;
+mod far;
 mod leaves;
 mod linked;
 mod mutants;
@@ -30,6 +31,7 @@ const USAGE: &str = "\
 host constants                   the numbers that the port records
 host compare GROUP [N] [SEED]    N inputs of a group (or all) to both sides; exit status 1 on a difference
 host compare turns [N] [SEED]    among them: angles and the directions of steady loops, beside exact angles in whole numbers
+host compare radians [N] [SEED]  among them: N squared chords of each family, bit for bit, and how far they are from the Rust's
 host compare samples [N] [SEED]  among them: the stored scenes, cut and damaged at every byte; N of these spread evenly, or all where N is 0
 host groups                      the groups whose exports are there
 host record FILE [N]             about N recorded answers an export, for the program `test_replay`
@@ -41,7 +43,7 @@ host bench                       nanoseconds of both and their ratio
 host repeat WHO WHAT SHAPE N TIMES   one call over and over, for a profile (ours or rust; star or convex)";
 
 /// The groups, with the exports that they need one of.
-const GROUPS: [(&str, &[Export]); 14] = [
+const GROUPS: [(&str, &[Export]); 17] = [
     ("root", &[Export::Root]),
     ("atan", &[Export::Atan2]),
     ("leaves", &[Export::LeafVec, Export::LeafNumber, Export::LeafCase, Export::LeafCap]),
@@ -64,6 +66,9 @@ const GROUPS: [(&str, &[Export]); 14] = [
     ("accepts", &[Export::Accepts]),
     ("questions", &[Export::Convex, Export::Simple, Export::Vertex, Export::OnEdge, Export::Equivalent]),
     ("pair", &[Export::Pair, Export::PairF64]),
+    ("far", &[Export::Far, Export::FarF64]),
+    ("arc_far", &[Export::ArcFar]),
+    ("radians", &[Export::Radians]),
     ("scene", &[Export::Scene]),
     ("samples", &[Export::Scene]),
 ];
@@ -82,7 +87,7 @@ fn stub() -> PathBuf {
 
 fn open() -> Port {
     Port::open(&stub()).unwrap_or_else(|| {
-        eprintln!("no port: link libexports.a (x86-64) or make oracle/target/stub (oracle/stub/build)");
+        eprintln!("no port: link libdesk.a (x86-64) or make oracle/target/stub (oracle/stub/build)");
         std::process::exit(2);
     })
 }
@@ -116,6 +121,9 @@ fn feed(group: &str, t: &mut Tally, r: &mut Random, n: usize) {
         "accepts" => rings::accepts(t, r, n),
         "questions" => rings::questions(t, r, n),
         "pair" => pairs::pair(t, r, n),
+        "far" => far::loops(t, r, n),
+        "arc_far" => far::arcs(t, r, n),
+        "radians" => far::radians(t, r, n),
         "samples" => samples::samples(t, r, n, &root(), open),
         _ => scenes::scenes(t, r, n, &root()),
     }
@@ -123,7 +131,9 @@ fn feed(group: &str, t: &mut Tally, r: &mut Random, n: usize) {
 
 fn record(file: &str, wanted: usize) {
     let mut calls = Vec::new();
-    for (group, _) in GROUPS.iter().filter(|g| !["scene", "samples", "leaves", "caps", "turns"].contains(&g.0)) {
+    // `test_replay` takes no others.
+    let left_out = ["scene", "samples", "leaves", "caps", "turns", "far", "arc_far", "radians"];
+    for (group, _) in GROUPS.iter().filter(|g| !left_out.contains(&g.0)) {
         let mut t = Tally::only_filled();
         feed(group, &mut t, &mut Random::new(1), wanted * 4);
         calls.extend(t.drain());

@@ -90,14 +90,14 @@ fn probe(export: Export) -> Call {
     let out = || Arg::OutBytes(Vec::new());
     let out_floats = || Arg::OutFloats(vec![0.0; 4]);
     let args = match export {
-        Root => vec![Arg::Word(0)],
+        Root | Radians => vec![Arg::Word(0)],
         Atan2 => vec![Arg::Word(0), Arg::Word(0)],
         Build | Triangles | ArcOpposite | Scene => vec![b(), out()],
         Place | Pair | Accepts | Vertex | OnEdge | Equivalent | ArcSide | ArcContains => {
             vec![b(), b()]
         }
         Convex | Simple => vec![b()],
-        Arc | ArcIntersection | ArcRelate => vec![b(), b(), out()],
+        Arc | ArcIntersection | ArcRelate | Far | ArcFar => vec![b(), b(), out()],
         BuildF64 => vec![f(), out(), out_floats(), out_floats(), out()],
         PlaceF64 => {
             vec![b(), f(), f(), b(), Arg::Float(0.0), Arg::Float(0.0), Arg::Float(0.0)]
@@ -108,6 +108,9 @@ fn probe(export: Export) -> Call {
         LeafVec => vec![Arg::Int(0), nine(), out_floats()],
         LeafNumber | LeafCase => vec![Arg::Int(0), nine()],
         LeafCap => vec![f(), out_floats()],
+        FarF64 => {
+            vec![b(), f(), f(), b(), Arg::Float(0.0), Arg::Float(0.0), Arg::Float(0.0), out_floats()]
+        }
     };
     Call { export, args }
 }
@@ -194,7 +197,8 @@ fn decode(c: &Call, head: &(usize, Vec<(usize, usize)>), sent: &[u8], back: &[u8
             outs.push(back[*start..start + size].to_vec());
         }
     }
-    let value = if matches!(c.export, Export::Root | Export::Atan2 | Export::LeafNumber | Export::Scene) {
+    let wide = [Export::Root, Export::Atan2, Export::LeafNumber, Export::Scene, Export::Radians];
+    let value = if wide.contains(&c.export) {
         word(1)
     } else {
         // The answer is 32 bits wide; what the register holds above it says nothing.

@@ -31,6 +31,12 @@ pub fn place(number: u16, p: P) -> Vec<u8> {
     record(2, &b)
 }
 
+pub fn far(number: u16, p: P) -> Vec<u8> {
+    let mut b = number.to_le_bytes().to_vec();
+    b.extend(bytes(p));
+    record(4, &b)
+}
+
 pub fn pair(a: u16, b: u16) -> Vec<u8> {
     let mut body = a.to_le_bytes().to_vec();
     body.extend(b.to_le_bytes());
@@ -71,7 +77,8 @@ impl Good {
         self.areas.push((number, list));
     }
 
-    fn place(&mut self, r: &mut Random) {
+    /// An area, and a position worth asking of it.
+    fn query(&self, r: &mut Random) -> (u16, P) {
         let (number, list) = r.pick(&self.areas);
         let p = match r.below(5) {
             0 if !list.is_empty() => list[r.below(list.len())],
@@ -79,7 +86,17 @@ impl Good {
             2 | 3 if !list.is_empty() => unit(list.iter().copied().fold([0.0; 3], add)),
             _ => r.position(),
         };
-        self.records.push(place(*number, p));
+        (*number, p)
+    }
+
+    fn place(&mut self, r: &mut Random) {
+        let (number, p) = self.query(r);
+        self.records.push(place(number, p));
+    }
+
+    fn far(&mut self, r: &mut Random) {
+        let (number, p) = self.query(r);
+        self.records.push(far(number, p));
     }
 
     fn pair(&mut self, r: &mut Random) {
@@ -87,17 +104,18 @@ impl Good {
         self.records.push(pair(a, b));
     }
 
-    /// A place or a pair, where there is an area.
+    /// A place, a far or a pair, where there is an area.
     fn ask(&mut self, r: &mut Random) {
-        match r.below(2) {
+        match r.below(3) {
             _ if self.areas.is_empty() => {}
             0 => self.place(r),
+            1 => self.far(r),
             _ => self.pair(r),
         }
     }
 }
 
-/// Areas of every shape, and places and pairs of them.
+/// Areas of every shape, and places, fars and pairs of them.
 fn whole(r: &mut Random) -> Good {
     let most = *r.pick(&[1, 3, 6, 16, 16]);
     let mut good = Good::default();
@@ -212,21 +230,21 @@ fn wrong_length(r: &mut Random, len: u32) -> u32 {
 
 /// A record with as many faults as chance has it, each by itself, so that any two of them meet.
 fn faulty(r: &mut Random, good: &Good) -> Vec<u8> {
-    let form = *r.pick(&[1, 1, 1, 2, 3, 3]);
+    let form = *r.pick(&[1, 1, 1, 2, 3, 3, 4]);
     let mut body = number_of(r, good, form).to_le_bytes().to_vec();
     match form {
         1 => {
             let count = count_of(r, good);
             body.extend(list_bytes(&list_of(r, count)));
         }
-        2 => body.extend(if r.chance(2) { bytes(refused(r)) } else { bytes(r.position()) }),
+        2 | 4 => body.extend(if r.chance(2) { bytes(refused(r)) } else { bytes(r.position()) }),
         _ => body.extend(number_of(r, good, form).to_le_bytes()),
     }
     if r.chance(8) {
         let size = body.len() + r.below(4);
         body.resize(size.saturating_sub(r.below(6)), r.below(2) as u8);
     }
-    let kind = if r.chance(10) { *r.pick(&[0, 4, 5, 256, 257, 258, 259, 65_535]) } else { form };
+    let kind = if r.chance(10) { *r.pick(&[0, 5, 9, 256, 257, 258, 259, 260, 1_024, 65_535]) } else { form };
     let mut b = record(kind, &body);
     if r.chance(12) {
         b[..4].copy_from_slice(&wrong_length(r, body.len() as u32).to_le_bytes());
@@ -275,7 +293,7 @@ fn both_ways(r: &mut Random) -> Vec<u8> {
     good.records.concat()
 }
 
-/// About as many bytes as there may be, of pairs and places of one area, or nothing that makes sense; a fault at the end.
+/// About as many bytes as there may be, of pairs, places or fars of one area, or nothing that makes sense; a fault at the end.
 fn long(r: &mut Random) -> Vec<u8> {
     let fits = r.chance(3);
     let size = *r.pick(if fits { &[65_530, 65_535, 65_536, 65_536] } else { &[65_537, 65_538, 70_000, 131_073] });
@@ -283,12 +301,16 @@ fn long(r: &mut Random) -> Vec<u8> {
         return vec![*r.pick(&[0, 1, 255]); size];
     }
     let mut good = Good::default();
-    let (corners, other) = (shapes::convex(r, 3), r.chance(2));
+    let (corners, filled) = (shapes::convex(r, 3), r.below(4));
     good.area(r, corners);
     let of = good.areas[0].0;
     let mut b = good.records.concat();
     let last = if r.chance(2) { faulty(r, &good) } else { pair(of, of) };
-    let fill = if other { place(of, X) } else { pair(of, of) };
+    let fill = match filled {
+        0 => place(of, X),
+        1 => far(of, X),
+        _ => pair(of, of),
+    };
     while b.len() + fill.len() + last.len() <= size {
         b.extend(&fill);
     }
@@ -304,7 +326,7 @@ fn damage_field(r: &mut Random, b: &mut [u8]) {
     let (kind, len) = (b[4], b.len() as u32 - 6);
     match r.below(if b.len() > 8 { 4 } else { 3 }) {
         0 => b[..4].copy_from_slice(&wrong_length(r, len).to_le_bytes()),
-        1 => b[4..6].copy_from_slice(&r.pick(&[0_u16, 1, 2, 3, 4, 257, 65_535]).to_le_bytes()),
+        1 => b[4..6].copy_from_slice(&r.pick(&[0_u16, 1, 2, 3, 4, 5, 257, 65_535]).to_le_bytes()),
         2 => b[6..8].copy_from_slice(&r.pick(&[0_u16, 1, 2, 3, 999, 65_535]).to_le_bytes()),
         _ if kind == 3 => b[8..10].copy_from_slice(&r.pick(&[0_u16, 1, 2, 3, 999, 65_535]).to_le_bytes()),
         _ => {
@@ -355,11 +377,11 @@ pub fn scene(r: &mut Random) -> (&'static str, Vec<u8>) {
     }
 }
 
-/// The worked example (SCOPE 38) cut at every byte, and with each bit of it changed.
+/// The worked example (SCOPE 38) and a far of it, cut at every byte, and with each bit of it changed.
 pub fn every_byte() -> Vec<(&'static str, Vec<u8>)> {
     let (y, z) = ([0.0, 1.0, 0.0], [0.0, 0.0, 1.0]);
     let places = [place(1, [0.48, 0.6, 0.64]), place(1, [0.6, 0.0, 0.8])].concat();
-    let whole = [area(1, &[X, y, z]), area(2, &[X, y, [0.0, 0.0, -1.0]]), places, pair(1, 2)].concat();
+    let whole = [area(1, &[X, y, z]), area(2, &[X, y, [0.0, 0.0, -1.0]]), places, pair(1, 2), far(2, z)].concat();
     let cut = (0..=whole.len()).map(|n| ("the example, cut at every byte", whole[..n].to_vec()));
     let changed = (0..8 * whole.len()).map(|i| {
         let mut b = whole.clone();

@@ -166,7 +166,7 @@ pub fn damaged_loop(r: &mut Random, l: &[u8]) -> Vec<u8> {
     b
 }
 
-fn bad_float(r: &mut Random) -> f64 {
+pub fn bad_float(r: &mut Random) -> f64 {
     *r.pick(&[f64::NAN, f64::INFINITY, f64::NEG_INFINITY, 1e308, -1e308, 0.0, -0.0, 1.0, -1.0, 4.0, 1e-308])
 }
 
@@ -329,7 +329,7 @@ pub fn query(r: &mut Random, l: &[u8]) -> P {
     }
 }
 
-fn query_bytes(r: &mut Random, l: &[u8]) -> Vec<u8> {
+pub fn query_bytes(r: &mut Random, l: &[u8]) -> Vec<u8> {
     let p = query(r, l);
     // An inside that is not there is the zero vector: then it is refused, which is worth a few runs too.
     let b = bytes(p);

@@ -148,6 +148,8 @@ fn note_lines(t: &mut Tally, text: &str) {
         match words.as_slice() {
             ["area", _, _, rest @ .., _] => t.note(&format!("area {}", rest.join(" "))),
             ["place", _, word] => t.note(&format!("place {word}")),
+            ["far", _, "0000000000000000"] => t.note("far 0"),
+            ["far", ..] => t.note("far above 0"),
             ["pair", _, _, word] => t.note(&format!("pair {word}")),
             _ => {}
         }

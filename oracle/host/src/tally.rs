@@ -26,8 +26,16 @@ pub struct Tally {
 /// A call that is yet to be put: with a word on where it came from, and what the model says, where that is known already.
 struct Waiting {
     call: Call,
-    from: String,
+    from: &'static str,
     expected: Option<Answer>,
+}
+
+/// One more of its kind.
+fn count(kinds: &mut BTreeMap<String, u64>, kind: &str) {
+    match kinds.get_mut(kind) {
+        Some(n) => *n += 1,
+        None => drop(kinds.insert(kind.to_string(), 1)),
+    }
 }
 
 const REFUSED: u64 = 65_536;
@@ -36,7 +44,7 @@ const SIZE_REFUSED: u64 = 1 << 32;
 fn kind_of(call: &Call, a: &Answer) -> String {
     let name = format!("{:?}", call.export);
     match call.export {
-        Export::Root | Export::Atan2 => name,
+        Export::Root | Export::Atan2 | Export::Radians => name,
         Export::LeafVec | Export::LeafNumber => format!("{name} {}", call.args[0].word()),
         Export::LeafCase => format!("{name} {} = {}", call.args[0].word(), a.value),
         Export::Scene if a.value >= SIZE_REFUSED => format!("{name} refused {}", a.value - SIZE_REFUSED),
@@ -191,7 +199,7 @@ impl Tally {
 
     /// Counts something that is worth knowing of the inputs.
     pub fn note(&mut self, what: &str) {
-        *self.notes.entry(what.to_string()).or_default() += 1;
+        count(&mut self.notes, what);
     }
 
     /// Keeps the greatest of its kind, to be printed as a power of two.
@@ -207,17 +215,17 @@ impl Tally {
     }
 
     /// A call, with a word on where it came from, for a difference's report.
-    pub fn put_as(&mut self, export: Export, args: Vec<Arg>, from: &str) {
-        self.wait(Waiting { call: Call { export, args }, from: from.to_string(), expected: None });
+    pub fn put_as(&mut self, export: Export, args: Vec<Arg>, from: &'static str) {
+        self.wait(Waiting { call: Call { export, args }, from, expected: None });
     }
 
     /// A call of which the model's answer is known already.
     pub fn put_known(&mut self, call: Call, expected: Answer) {
-        self.wait(Waiting { call, from: String::new(), expected: Some(expected) });
+        self.wait(Waiting { call, from: "", expected: Some(expected) });
     }
 
     fn wait(&mut self, w: Waiting) {
-        self.size += 64 + w.call.args.iter().map(|a| a.bytes().map_or(8, |b| b.len())).sum::<usize>();
+        self.size += 64 + w.call.args.iter().map(|a| a.size().unwrap_or(8)).sum::<usize>();
         self.waiting.push(w);
         if self.size > BATCH && self.port.is_some() {
             self.flush();
@@ -234,7 +242,7 @@ impl Tally {
             for ((call, (from, expected)), port) in calls.iter().zip(rest).zip(answers) {
                 if let Some(port) = port {
                     let ours = expected.unwrap_or_else(|| by_model(call));
-                    self.compare(call, &from, &ours, &port);
+                    self.compare(call, from, &ours, &port);
                 }
             }
         }
@@ -254,15 +262,19 @@ impl Tally {
 
     fn compare(&mut self, call: &Call, from: &str, ours: &Answer, port: &Answer) {
         self.compared += 1;
-        *self.kinds.entry(kind_of(call, ours)).or_default() += 1;
-        self.measure(call, port);
+        count(&mut self.kinds, &kind_of(call, ours));
+        self.measure(call, from, port);
         if !same(call, ours, port) {
             self.differ(call, from, ours, port);
         }
     }
 
     /// How far the port's angles are from the Rust's own: absolute, where both are finite.
-    fn measure(&mut self, call: &Call, port: &Answer) {
+    fn measure(&mut self, call: &Call, from: &str, port: &Answer) {
+        if call.export == Export::Radians {
+            self.measure_radians(call, from, port);
+            return;
+        }
         let rust = match (call.export, call.args.as_slice()) {
             (Export::Atan2, [y, x]) => f64::from_bits(y.word()).atan2(f64::from_bits(x.word())),
             (Export::LeafNumber, [Arg::Int(7), Arg::Floats(f)]) => model::leaves::rust_turning(f),
@@ -291,6 +303,19 @@ impl Tally {
         self.farthest = self.farthest.max(off);
         if off > 2.0_f64.powi(-45) {
             let rust = Answer { value: rust.to_bits(), outs: Vec::new() };
+            self.differ(call, "farther than 2^-45 from the Rust's", &rust, port);
+        }
+    }
+
+    /// How far the port's radians are from the Rust's own, by the family of the squared chord.
+    fn measure_radians(&mut self, call: &Call, family: &str, port: &Answer) {
+        let rust = model::far::rust_radians(f64::from_bits(call.args[0].word()));
+        let ours = f64::from_bits(port.value);
+        if rust.is_finite() && ours.is_finite() {
+            self.keep_most(family, (ours - rust).abs());
+        }
+        if !model::far::near_rust(ours, rust) {
+            let rust = Answer { value: model::leaves::bits(rust), outs: Vec::new() };
             self.differ(call, "farther than 2^-45 from the Rust's", &rust, port);
         }
     }
@@ -335,7 +360,8 @@ impl Tally {
             println!("  (farthest angle from the Rust's: 2^{:.2})", self.farthest.log2());
         }
         for (k, most) in &self.most {
-            println!("  ({k}: 2^{:.2})", most.log2());
+            let size = if *most == 0.0 { "0".to_string() } else { format!("2^{:.2}", most.log2()) };
+            println!("  ({k}: {size})");
         }
         self.differences == 0
     }

@@ -5,7 +5,7 @@ use jord::spherical::minor_arc::probe::of_parts;
 use jord::spherical::{MinorArc, MinorArcRelation, Side};
 
 /// An arc handed in: its 1, then start and end with 3 before 4, then its normal's 3.
-fn read_arc(bytes: &[u8]) -> Judged<MinorArc> {
+pub fn read_arc(bytes: &[u8]) -> Judged<MinorArc> {
     refuse_if(bytes.len() != 72, 1)?;
     let c = floats(bytes);
     let start = position(&c[0..3])?;

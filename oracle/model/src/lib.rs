@@ -7,6 +7,7 @@ pub mod arcs;
 pub mod ask;
 pub mod build;
 pub mod cut;
+pub mod far;
 pub mod leaves;
 pub mod loops;
 pub mod pair;
@@ -17,6 +18,7 @@ pub use arcs::{desk_arc, desk_arc_contains, desk_arc_intersection, desk_arc_oppo
 pub use ask::{desk_convex, desk_equivalent, desk_on_edge, desk_place, desk_place_f64, desk_simple, desk_vertex};
 pub use build::{desk_build, desk_build_f64};
 pub use cut::{desk_accepts, desk_full_positions, desk_triangles, desk_triangles_f64};
+pub use far::{desk_arc_far, desk_far, desk_far_f64, desk_radians};
 pub use leaves::{desk_atan2, desk_root, leaf_cap, leaf_case, leaf_number, leaf_vec};
 pub use pair::{desk_pair, desk_pair_f64};
 pub use scene::desk_scene;

@@ -1,7 +1,8 @@
-//! A scene as a function from bytes to text (SCOPE 28 to 30, 46 to 48).
+//! A scene as a function from bytes to text (SCOPE 28 to 30, 46 to 48, 52).
 use crate::ask::{INSIDE, MUTE, placed};
 use crate::build::{Built, build};
 use crate::cut::triangles_checked;
+use crate::far::far_of;
 use crate::loops::{EMPTY, FULL, Handed, Ring, read_loop};
 use crate::pair::relate;
 use crate::read::{HEADER, MOST, floats, position, put};
@@ -21,6 +22,7 @@ const HEAD: usize = 6;
 const AREA: u16 = 1;
 const PLACE: u16 = 2;
 const PAIR: u16 = 3;
+const FAR: u16 = 4;
 
 const RELATIONS: [&str; 6] = ["disjoint", "touching", "intersecting", "containing", "within", "equal"];
 
@@ -58,10 +60,10 @@ fn record(input: &[u8], at: usize) -> Taken<Record<'_>> {
     let length = u32::from_le_bytes(rest[..4].try_into().unwrap()) as usize;
     refuse_at(rest.len() - HEAD < length, 20, input.len())?;
     let kind = u16_at(rest, 4);
-    refuse_at(![AREA, PLACE, PAIR].contains(&kind), 21, at + 4)?;
+    refuse_at(![AREA, PLACE, PAIR, FAR].contains(&kind), 21, at + 4)?;
     let fits = match kind {
         AREA => length >= 2 && (length - 2) % 24 == 0,
-        PLACE => length == 26,
+        PLACE | FAR => length == 26,
         _ => length == 4,
     };
     refuse_at(!fits, 22, at)?;
@@ -200,6 +202,15 @@ impl Scene {
         Ok(())
     }
 
+    /// The squared chord's bits, the highest digit first.
+    fn far(&mut self, r: &Record) -> Taken<()> {
+        let number = r.first().0;
+        let p = r.positions()?[0];
+        let far = far_of(&self.find(number).expect("it was judged").of, p);
+        writeln!(self.text, "far {number} {:016X}", far.to_bits()).unwrap();
+        Ok(())
+    }
+
     fn pair(&mut self, r: &Record) -> Taken<()> {
         let (a, b) = (u16_at(r.body, 0), u16_at(r.body, 2));
         let of = |number| &self.find(number).expect("it was judged").of;
@@ -218,6 +229,7 @@ impl Scene {
         match r.kind {
             AREA => self.area(&r)?,
             PLACE => self.place(&r)?,
+            FAR => self.far(&r)?,
             _ => self.pair(&r)?,
         }
         Ok(r.body_at() + r.body.len())
@@ -292,6 +304,10 @@ mod tests {
         record(2, &body(number, &[p]))
     }
 
+    fn far(number: u16, p: P) -> Vec<u8> {
+        record(4, &body(number, &[p]))
+    }
+
     fn pair(a: u16, b: u16) -> Vec<u8> {
         record(3, &[a.to_le_bytes(), b.to_le_bytes()].concat())
     }
@@ -333,6 +349,21 @@ mod tests {
         assert_eq!(scene(&[]).0, "end 0\n");
     }
 
+    /// Sixteen digits of upper case, of an area without corners too.
+    #[test]
+    fn how_far() {
+        let fars = [far(1, [0.48, 0.6, 0.64]), far(1, X), area(7, &[]), far(7, Z)].concat();
+        let text = scene(&[one(), fars].concat()).0;
+        let lines = [
+            "area 1 3 ring reversed steady 1",
+            "far 1 3FCF6B55165238B9",
+            "far 1 0000000000000000",
+            "area 7 0 empty kept steady 0",
+            "far 7 0000000000000000",
+        ];
+        assert_eq!(text, format!("{}\nend 5\n", lines.join("\n")));
+    }
+
     #[test]
     fn too_many_bytes_is_28_and_comes_first() {
         let mut whole = one();
@@ -368,8 +399,15 @@ mod tests {
     /// A kind, a length and a number are not looked at in a record that is cut short.
     #[test]
     fn cut_short_comes_before_all_else() {
-        for r in [record(9, &[1, 0]), record(3, &[1, 0, 0]), pair(0, 1), area(0, &[X]), area(1, &[NAN]), place(9, FAR)]
-        {
+        for r in [
+            record(9, &[1, 0]),
+            record(3, &[1, 0, 0]),
+            pair(0, 1),
+            area(0, &[X]),
+            area(1, &[NAN]),
+            place(9, FAR),
+            far(9, NAN),
+        ] {
             for n in 1..r.len() {
                 assert_eq!(last(&[&one()[..], &r[..n]].concat()), format!("refused 20 at 80 {}", 80 + n));
             }
@@ -378,20 +416,21 @@ mod tests {
 
     #[test]
     fn unknown_kind_is_21() {
-        for kind in [0, 4, 5, 256, 257, 258, 259, 512, 65_535] {
+        for kind in [0, 5, 9, 256, 257, 258, 259, 260, 512, 1_024, 65_535] {
             for body in [&[][..], &[0, 0], &[1, 0, 1, 0], &[0; 26]] {
                 assert_eq!(after_one(&record(kind, body)), "refused 21 at 80 84");
             }
         }
-        assert_eq!(last(&record(4, &[])), "refused 21 at 0 4");
+        assert_eq!(last(&record(5, &[])), "refused 21 at 0 4");
     }
 
     #[test]
     fn wrong_length_is_22() {
-        let wrong: [(u16, &[usize]); 3] = [
+        let wrong: [(u16, &[usize]); 4] = [
             (1, &[0, 1, 3, 24, 25, 27, 48, 49, 51, 24_577]),
             (2, &[0, 2, 24, 25, 27, 50]),
             (3, &[0, 2, 3, 5, 6, 8, 26]),
+            (4, &[0, 2, 4, 24, 25, 27, 50]),
         ];
         for (kind, lengths) in wrong {
             for n in lengths {
@@ -404,7 +443,9 @@ mod tests {
 
     #[test]
     fn zero_is_23() {
-        for r in [area(0, &[]), area(0, &[X, Y, Z]), area(0, &[NAN]), place(0, Z), place(0, NAN), pair(0, 1)] {
+        for r in
+            [area(0, &[]), area(0, &[X, Y, Z]), area(0, &[NAN]), place(0, Z), place(0, NAN), far(0, NAN), pair(0, 1)]
+        {
             assert_eq!(after_one(&r), "refused 23 at 80 86");
             assert_eq!(last(&r), "refused 23 at 0 6");
         }
@@ -432,6 +473,8 @@ mod tests {
     fn not_met_is_25() {
         assert_eq!(after_one(&place(2, Z)), "refused 25 at 80 86");
         assert_eq!(after_one(&place(2, NAN)), "refused 25 at 80 86");
+        assert_eq!(after_one(&far(2, Z)), "refused 25 at 80 86");
+        assert_eq!(after_one(&far(2, NAN)), "refused 25 at 80 86");
         assert_eq!(after_one(&pair(2, 1)), "refused 25 at 80 86");
         assert_eq!(after_one(&pair(1, 2)), "refused 25 at 80 88");
         assert_eq!(after_one(&pair(2, 3)), "refused 25 at 80 86");
@@ -465,7 +508,8 @@ mod tests {
         let then = |r: Vec<u8>| last(&[&most[..], &r].concat());
         assert_eq!(most.len(), 24_568);
         assert_eq!(then(area(3, &[X])), "end 3");
-        assert_eq!(then([area(3, &[X]), area(4, &[]), place(1, X), pair(1, 2)].concat()), "end 6");
+        assert_eq!(then([area(3, &[X]), area(4, &[]), place(1, X), far(2, X), pair(1, 2)].concat()), "end 7");
+        assert_eq!(then([far(1, X), place(1, X), far(2, X), area(3, &[X])].concat()), "end 6");
         assert_eq!(then([area(3, &[X]), area(4, &[X])].concat()), "refused 27 at 24600 24600");
         assert_eq!(then(area(3, &[X, X])), "refused 27 at 24568 24568");
         assert_eq!(then(area(3, &[NAN, X])), "refused 27 at 24568 24568");
@@ -524,6 +568,8 @@ mod tests {
         assert_eq!(after_one(&place(1, [0.0, f64::INFINITY, 0.0])), "refused 3 at 80 86 0");
         assert_eq!(after_one(&place(1, FAR)), "refused 4 at 80 86 0");
         assert_eq!(after_one(&place(1, [0.0; 3])), "refused 4 at 80 86 0");
+        assert_eq!(after_one(&far(1, NAN)), "refused 3 at 80 86 0");
+        assert_eq!(after_one(&far(1, FAR)), "refused 4 at 80 86 0");
     }
 
     #[test]

@@ -1,4 +1,4 @@
-//! The model behind the exports' C names. It stands in for libexports.a where that cannot be linked, and where the
+//! The model behind the exports' C names. It stands in for libdesk.a where that cannot be linked, and where the
 //! host itself is put to the test (oracle/mutants). It is not the port: `desk_standin` says so to whoever links it.
 use std::slice::{from_raw_parts, from_raw_parts_mut};
 
@@ -64,6 +64,11 @@ stand! {
     leaf_case [op: u32, a: F, n: N] (op, lent(a, n)) -> u32;
     leaf_cap [a: F, n: N, o: OF, m: N] (lent(a, n), lent_mut(o, m)) -> u32;
     desk_scene [a: B, n: N, o: OB, m: N] (lent(a, n), lent_mut(o, m)) -> u64;
+    desk_radians [c: u64] (c) -> u64;
+    desk_far [a: B, n: N, b: B, m: N, o: OB, l: N] (lent(a, n), lent(b, m), lent_mut(o, l)) -> u32;
+    desk_arc_far [a: B, n: N, b: B, m: N, o: OB, l: N] (lent(a, n), lent(b, m), lent_mut(o, l)) -> u32;
+    desk_far_f64 [h: B, hn: N, p: F, pn: N, q: F, qn: N, c: B, cn: N, x: f64, y: f64, z: f64, o: OF, m: N]
+        (lent(h, hn), lent(p, pn), lent(q, qn), lent(c, cn), x, y, z, lent_mut(o, m)) -> u32;
 }
 
 /// Tells the stand-in from the port.

@@ -3,3 +3,4 @@ pub mod Order
 pub mod Chords
 pub mod Least
 pub mod Exact
+pub mod Unique

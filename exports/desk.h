@@ -1,5 +1,4 @@
-/* The desk's geometry for C and C++: the functions of libdesk.a (`exports/library` writes target/staticlib/libdesk.a, x86-64
-   Linux).
+/* The desk's geometry for C and C++: the functions of target/staticlib/libdesk.a (`exports/library`, x86-64 Linux).
    docs/SCOPE.md says what each answer means; exports/sample.c is a whole program; exports/check compiles it as C99 and
    as C++, links and runs it, and holds every name and constant below to the archive.
 
@@ -43,13 +42,12 @@
    text is a line for each record, and then one line that is `end N`, where all N records were read, or
    `refused NUMBER at RECORD FIELD`, with the offsets of the record and of the field that it is refused for; for 3 and 4
    also with the INDEX of the position in its list. A text whose last line is neither is broken output: take nothing from
-   it. A record of kind 4 asks how far a position is from an area's border: the area's number (uint16_t), one
-   position. Its line is `far AREA BITS`, the squared chord that desk_far writes as sixteen hexadecimal digits, the
-   highest first, which is the number that desk_radians takes. NUMBER is a call's own (2, 3, 4, 7) or one that a
-   scene's text alone has: 20 the record is cut short, 21 its kind is unknown, 22 its length is wrong for its kind, 23
-   an area number is zero, 24 an area before has that number, 25 no area before has it, 26 too many areas, 27 too many
-   positions, 28 more than DESK_MOST_SCENE_BYTES.
-   docs/REFUSALS.md has the table. */
+   it. NUMBER is a call's own (2, 3, 4, 7) or one that a scene's text alone has: 20 the record is cut short, 21 its kind
+   is unknown, 22 its length is wrong for its kind, 23 an area number is zero, 24 an area before has that number,
+   25 no area before has it, 26 too many areas, 27 too many positions, 28 more than DESK_MOST_SCENE_BYTES.
+   docs/REFUSALS.md has the table. A record of kind 4 asks how far a position is from an area's border (the area's number,
+   uint16_t, and one position): its line is `far AREA BITS`, where BITS is the squared chord that desk_far writes, as sixteen
+   hexadecimal digits, the highest first. That number is what desk_radians takes. */
 #ifndef DESK_H
 #define DESK_H
 #include <stddef.h>

@@ -66,10 +66,8 @@ fn told_by(
     ensures { λ r. ⌜ toldDistance r ≡ Far.toldBy h (now (positions .entry)) (now (normals .entry)) (now (classes .entry)) (now (position .entry)) ⌝ }
 {
     if position.len() != wire::VECTOR {
-        return Distance::Refused(judge::first(
-            loop_header::loop_fault(h, positions, normals, classes),
-            1,
-        ));
+        let f = loop_header::loop_fault(h, positions, normals, classes);
+        return Distance::Refused(judge::first(f, 1));
     }
     loop_distances::distance_to_boundary(h, positions, normals, classes, wire::vec_at(position, 0))
 }

@@ -15,7 +15,7 @@ told-spec =
     (tie.spec
     (λ c κs. search needs)
     (λ c. let fault = c .before in
-    let a = fault .before .before .args in
+    let a = fault .before .before .before .args in
     early (a .s .now) (a .position .now) (fault .copy-fault .ensures) (c .if1 .taken))
     (λ c κs. omega (arith, copies _ (c .before .copy-fault .ensures) (c .if1 .left) .size))
     (λ c. search needs)
@@ -38,5 +38,5 @@ told-spec =
     (λ c. let copied = c .before .before in
     let fine = copied .before .before .before .before in
     let fault = fine .before in
-    let a = fault .before .before .args in
+    let a = fault .before .before .before .args in
     late (a .s .now) (a .position .now) (fault .copy-fault .ensures) (fine .if1 .left) (copied .told-in .ensures)))

@@ -9,7 +9,7 @@ returns c =
     let header = c .before .before .before .before in
     let read = header .before .before .before .before .before in
     let from = read .before .before .before in
-    let start = from .before .before .before .before in
+    let start = from .before .before .before .before .before in
     simp (header .header-at .ensures, read .read-vectors .ensures .0, read .read-vectors .ensures .1, classes-read (start .args .s .now) (from .classes-from .ensures))
     at (c .told-by .ensures)
 

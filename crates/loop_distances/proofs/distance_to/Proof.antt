@@ -16,4 +16,4 @@ distance-to-spec =
     (λ c. let q = c .before .before in
     let read = q .before in
     judged-none _ (simp (read .before .clear-arc .ensures, read .clear .ensures) at (q .query-fault .ensures)) (c .before .if1 .left)
-    (simp (c .far-arc .ensures, read .before .clear-arc .ensures, read .clear .ensures))))
+      (simp (c .far-arc .ensures, read .before .clear-arc .ensures, read .clear .ensures))))

@@ -172,6 +172,51 @@ static void sizes(void) {
     HOLD(desk_atan2(0x8000000000000000u, 0x7ff8000000000001u), 0x8000000000000000u);
 }
 
+static double radians(const uint8_t *chord) {
+    uint64_t bits;
+    double angle;
+    memcpy(&bits, chord, sizeof bits);
+    bits = desk_radians(bits);
+    memcpy(&angle, &bits, sizeof angle);
+    return angle;
+}
+
+/* From the octant's border, of a position inside, at a corner and outside; from an arc; with too little room, which is refused after all else. */
+static void distances(void) {
+    double ps[DESK_LIST_FLOATS(3)], ns[DESK_LIST_FLOATS(3)], chord = 7;
+    uint8_t header[DESK_HEADER_BYTES], classes[3], arc[DESK_ARC_BYTES];
+    BUILD(loop, octant);
+    memset(out, 7, DESK_CHORD_BYTES + 1u);
+    HOLD(desk_far(LOOP(loop), BYTES(below + 6), DESK_POSITION_BYTES, out, DESK_CHORD_BYTES - 1), DESK_REFUSED_ROOM);
+    HOLD(desk_far(LOOP(loop), BYTES(below + 6), DESK_POSITION_BYTES - 1, out, 0), DESK_REFUSED_SHAPE);
+    HOLD(desk_far(LOOP(loop), BYTES(longer), DESK_POSITION_BYTES, out, 0), DESK_REFUSED_NOT_UNIT);
+    HOLD(out[0] == 7 && memcmp(out, out + 1, DESK_CHORD_BYTES) == 0, 1); /* nothing was written */
+    HOLD(desk_far(LOOP(loop), BYTES(below + 6), DESK_POSITION_BYTES, out, DESK_CHORD_BYTES), 0);
+    HOLD(out[DESK_CHORD_BYTES], 7);
+    HOLD(radians(out) > 1.57079 && radians(out) < 1.5708, 1); /* a quarter of the circle */
+    HOLD(desk_far(LOOP(loop), BYTES(octant), DESK_POSITION_BYTES, out, sizeof out), 0);
+    HOLD(radians(out) >= 0 && radians(out) < 1e-7, 1);
+    HOLD(desk_far(LOOP(loop), BYTES(across), DESK_POSITION_BYTES, out, sizeof out), 0);
+    HOLD(radians(out) > 0.3 && radians(out) < 0.4, 1);
+    HOLD(desk_arc(BYTES(octant), 24, BYTES(octant + 3), 24, arc, sizeof arc), 0);
+    HOLD(desk_arc_far(arc, sizeof arc, BYTES(octant + 6), DESK_POSITION_BYTES, out, DESK_CHORD_BYTES - 1), DESK_REFUSED_ROOM);
+    HOLD(desk_arc_far(arc, sizeof arc, BYTES(octant + 6), DESK_POSITION_BYTES, out, DESK_CHORD_BYTES), 0);
+    HOLD(radians(out) > 1.57079 && radians(out) < 1.5708, 1);
+    HOLD(desk_build_f64(octant, 9, header, sizeof header, ps, 9, ns, 9, classes, 3), 3);
+    HOLD(desk_far_f64(header, sizeof header, ps, 9, ns, 9, classes, 3, 0, 0, -1, &chord, 0), DESK_REFUSED_ROOM);
+    HOLD(chord, 7);
+    HOLD(desk_far_f64(header, sizeof header, ps, 9, ns, 9, classes, 3, 0, 0, -1, &chord, 1), 0);
+    HOLD(desk_far(LOOP(loop), BYTES(below + 6), DESK_POSITION_BYTES, out, sizeof out), 0);
+    HOLD(memcmp(out, &chord, DESK_CHORD_BYTES), 0);
+    build(&loop, NULL, 0);
+    HOLD(desk_far(LOOP(loop), BYTES(octant), DESK_POSITION_BYTES, (uint8_t *)&chord, DESK_CHORD_BYTES), 0);
+    HOLD(chord, 0);
+    HOLD(desk_radians(0xbff0000000000000u), 0xbff0000000000000u);
+    HOLD(desk_radians(0x8000000000000000u), 0x8000000000000000u);
+    HOLD(desk_radians(0x4010000000000001u), 0x400921fb54442d18u);
+    HOLD(desk_radians(0x4010000000000002u), 0x7ff8000000000000u);
+}
+
 /* A record of a scene at an offset: its kind, its areas and a list; answers the offset after it. */
 static size_t put(size_t at, unsigned kind, unsigned a, unsigned b, const double *list, size_t n) {
     const unsigned body = (b ? 4u : 2u) + (unsigned)DESK_LIST_BYTES(n);
@@ -244,6 +289,7 @@ int main(void) {
     arcs();
     refusals();
     sizes();
+    distances();
     scenes();
     return wrong;
 }

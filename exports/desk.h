@@ -1,4 +1,4 @@
-/* The desk's geometry for C and C++: the functions of libexports.a (`rt staticlib exports`, x86-64 Linux).
+/* The desk's geometry for C and C++: the functions of target/staticlib/libdesk.a (`exports/library`, x86-64 Linux).
    docs/SCOPE.md says what each answer means; exports/sample.c is a whole program; exports/check compiles it as C99 and
    as C++, links and runs it, and holds every name and constant below to the archive.
 
@@ -45,7 +45,9 @@
    it. NUMBER is a call's own (2, 3, 4, 7) or one that a scene's text alone has: 20 the record is cut short, 21 its kind
    is unknown, 22 its length is wrong for its kind, 23 an area number is zero, 24 an area before has that number,
    25 no area before has it, 26 too many areas, 27 too many positions, 28 more than DESK_MOST_SCENE_BYTES.
-   docs/REFUSALS.md has the table. */
+   docs/REFUSALS.md has the table. A record of kind 4 asks how far a position is from an area's border (the area's number,
+   uint16_t, and one position): its line is `far AREA BITS`, where BITS is the squared chord that desk_far writes, as sixteen
+   hexadecimal digits, the highest first. That number is what desk_radians takes. */
 #ifndef DESK_H
 #define DESK_H
 #include <stddef.h>
@@ -90,6 +92,7 @@ extern "C" {
 #define DESK_FULL_POSITIONS 12u
 #define DESK_FULL_POSITIONS_FLOATS 36u
 #define DESK_ARC_BYTES 72u
+#define DESK_CHORD_BYTES 8u                         /* a squared chord */
 #define DESK_MOST_SCENE_BYTES 65536u                /* a longer scene is refused in its text */
 #define DESK_MOST_TEXT_BYTES 196989u                /* room for the text of any scene */
 #define DESK_STACK_BYTES 131072u                    /* of every call but desk_scene */
@@ -196,6 +199,24 @@ uint32_t desk_arc_intersection(const uint8_t *a, size_t a_len, const uint8_t *b,
    Refuses: those of a, those of b; ROOM below the 24 or 72 bytes that the answer writes. 72 always suffice. */
 uint32_t desk_arc_relate(const uint8_t *a, size_t a_len, const uint8_t *b, size_t b_len, uint8_t *out, size_t out_len);
 
+/* ---- how far
+   A SQUARED CHORD is what these write: the square of the straight line from a position to the nearest point, on a sphere of
+   radius 1, from 0.0 to 4.0. It is neither a length nor an angle, but less is nearer. desk_radians makes it the angle at
+   the earth's centre, and that times the earth's radius is a length along the ground. It is never NaN and never -0.0. At a
+   corner or on an edge it need not be 0.0: the last bits of the nearest point are rounded. */
+
+/* 0, with the squared chord from the position to the loop's border in out: the least over the edges; 0.0 for an empty or
+   full loop, which has no border. A position inside has a distance too, that to the border, and desk_place tells on which
+   side it lies. Mute and weak loops answer like any other.
+   Refuses: the loop's, then the position's; last of all ROOM below DESK_CHORD_BYTES. */
+uint32_t desk_far(const uint8_t *loop, size_t loop_len, const uint8_t *position, size_t position_len, uint8_t *out,
+                  size_t out_len);
+
+/* 0, with the squared chord from the position to the arc in out.
+   Refuses: the arc's, the position's; last of all ROOM below DESK_CHORD_BYTES. */
+uint32_t desk_arc_far(const uint8_t *arc, size_t arc_len, const uint8_t *position, size_t position_len, uint8_t *out,
+                      size_t out_len);
+
 /* ---- the same without copying, for callers that keep loops as floats: answers and refusals as above. A header to be
    read that is not 88 bytes is SHAPE, and so is a slice that is not 3n, 3n or n. */
 
@@ -214,6 +235,10 @@ uint32_t desk_pair_f64(const uint8_t *header, size_t header_len, const double *p
                        const uint8_t *other_classes, size_t other_classes_len);
 uint32_t desk_triangles_f64(const uint8_t *header, size_t header_len, const double *positions, size_t positions_len,
                             const uint8_t *classes, size_t classes_len, uint16_t *out, size_t out_len);
+/* The squared chord is one double. ROOM: no double in out. */
+uint32_t desk_far_f64(const uint8_t *header, size_t header_len, const double *positions, size_t positions_len,
+                      const double *normals, size_t normals_len, const uint8_t *classes, size_t classes_len, double x,
+                      double y, double z, double *out, size_t out_len);
 
 /* ---- scenes */
 
@@ -229,6 +254,9 @@ uint64_t desk_root(uint64_t b);
 /* The angle of (x, y) in radians, by an arctangent that is proved to be within 2^-45 of the exact angle for finite x and y that
    are not both zero; runs hold it to the C library's atan2 within as much. y = 0.0 with x = NaN gives 0.0, y = -0.0 gives -0.0. */
 uint64_t desk_atan2(uint64_t y, uint64_t x);
+/* The angle of a squared chord in radians, from 0 to pi. A number below 0 gives -1, which is no angle. 0.0 and -0.0 keep their
+   sign; 4, and the double next above it, give pi; whatever is larger gives NaN. */
+uint64_t desk_radians(uint64_t c);
 
 #ifdef __cplusplus
 }

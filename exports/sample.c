@@ -1,4 +1,4 @@
-/* A whole program over desk.h, plain C99 and C++: two areas are built, asked, compared and cut, and then come a refusal,
+/* A whole program over desk.h, plain C99 and C++: two areas are built, asked, measured, compared and cut, and then come a refusal,
    a ring that is mute, a full loop, and the same two areas as a scene. What it prints is exports/sample.txt. */
 #include "desk.h"
 #include <stdio.h>
@@ -83,6 +83,36 @@ static void place(const char *name, const Area *area, double x, double y, double
     answer = desk_place(area->bytes, area->size, bytes, sizeof bytes);
     if (!refused(name, answer))
         printf("%s: (%g, %g, %g) is %s\n", name, x, y, z, words[answer]);
+}
+
+/* A little-endian number of 64 bits. */
+static uint64_t number(const uint8_t *from) {
+    uint64_t n = 0;
+    int k;
+    for (k = 7; k >= 0; k--)
+        n = 256u * n + from[k];
+    return n;
+}
+
+static double float_of(uint64_t bits) {
+    double x;
+    memcpy(&x, &bits, sizeof x);
+    return x;
+}
+
+/* How far a position is from the border. A squared chord is no length: its radians are, times the earth's radius. */
+static void distance(const char *name, const Area *area, double x, double y, double z) {
+    const double p[3] = {x, y, z}, earth = 6371.0088;
+    uint8_t bytes[DESK_POSITION_BYTES], out[DESK_CHORD_BYTES];
+    uint64_t chord;
+    double angle;
+    put_floats(bytes, p, 3);
+    if (refused(name, desk_far(area->bytes, area->size, bytes, sizeof bytes, out, sizeof out)))
+        return;
+    chord = number(out);
+    angle = float_of(desk_radians(chord));
+    printf("%s: (%g, %g, %g) is %.0f km from its border: squared chord %.6f, %.6f radians\n", name, x, y, z, angle * earth,
+           float_of(chord), angle);
 }
 
 static void relate(const char *name, const Area *a, const Area *b) {
@@ -212,6 +242,7 @@ int main(void) {
         place("area 1", &a, 0.48, 0.6, 0.64);
         place("area 1", &a, 0.6, 0.0, 0.8);
         place("area 1", &a, 0.6, 0.8, 0.8);
+        distance("area 1", &a, 0.48, 0.6, 0.64);
         relate("area 1 to area 2", &a, &b);
         cut("area 1", &a);
     }

@@ -18,7 +18,7 @@ typedef struct {
 static Loop a, b;
 static uint8_t triangles[DESK_MOST_TRIANGLES_BYTES], arc[DESK_ARC_BYTES], other[DESK_ARC_BYTES], out[DESK_ARC_BYTES];
 static uint16_t numbers[DESK_TRIANGLES_NUMBERS(N)];
-static double full[DESK_FULL_POSITIONS_FLOATS];
+static double full[DESK_FULL_POSITIONS_FLOATS], chord[1];
 static uint8_t scene[DESK_MOST_SCENE_BYTES], text[DESK_MOST_TEXT_BYTES];
 static size_t scene_size = 0;
 
@@ -82,7 +82,7 @@ static uint32_t run_scene(void) {
 #define PARTS(l) (l).header, DESK_HEADER_BYTES, (l).positions, DESK_LIST_FLOATS(N), (l).normals, DESK_LIST_FLOATS(N), (l).classes, N
 
 /* The calls by number: none of them is refused. */
-#define SCENE 24
+#define SCENE 27
 static uint32_t call(int which) {
     switch (which) {
     case 0: return desk_build(BYTES(a.list), DESK_LIST_BYTES(N), WHOLE(a));
@@ -109,12 +109,16 @@ static uint32_t call(int which) {
     case 21: return desk_arc_intersection(arc, sizeof arc, other, sizeof other, out, sizeof out);
     case 22: return desk_arc_relate(arc, sizeof arc, other, sizeof other, out, sizeof out);
     case 23: return desk_full_positions(full, DESK_FULL_POSITIONS_FLOATS);
+    case 24: return desk_far(WHOLE(a), BYTES(b.list), DESK_POSITION_BYTES, out, sizeof out);
+    case 25: return desk_far_f64(PARTS(a), b.list[0], b.list[1], b.list[2], chord, 1);
+    case 26: return desk_arc_far(arc, sizeof arc, BYTES(b.list), DESK_POSITION_BYTES, out, sizeof out);
     case SCENE: return run_scene();
-    case 25: return (uint32_t)(desk_root(0x4000000000000000u) >> 32);
+    case 28: return (uint32_t)(desk_root(0x4000000000000000u) >> 32);
+    case 29: return (uint32_t)(desk_radians(0x3ff0000000000000u) >> 32);
     default: return (uint32_t)(desk_atan2(0x4000000000000000u, 0x3ff0000000000000u) >> 32);
     }
 }
-#define CALLS 27
+#define CALLS 31
 
 int main(void) {
     size_t most = 0, of_scene = 0;

@@ -23,7 +23,7 @@ fn size_fault(s: &[u8], n: usize) -> u8
     if s.len() == n { 0 } else { 1 }
 }
 
-fn arc_at(s: &[u8]) -> MinorArc
+pub fn arc_at(s: &[u8]) -> MinorArc
     requires { ⌜ 72 ≤ length (now s) ⌝ }
     ensures { λ r. ⌜ r ≡ Arcs.arcAt (now (s .entry)) ⌝ }
 {
@@ -45,7 +45,7 @@ fn arc_judged(s: &[u8]) -> u8
 }
 
 // The refusals of an arc, and then that of the length of what comes after it.
-fn next_judged(arc: &[u8], next: &[u8], n: usize) -> u8
+pub fn next_judged(arc: &[u8], next: &[u8], n: usize) -> u8
     ensures { λ r. ⌜ r ≡ Arcs.nextJudged (now (arc .entry)) (now (next .entry)) n ⌝ }
 {
     judge::first(arc_judged(arc), size_fault(next, n))

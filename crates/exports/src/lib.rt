@@ -1,6 +1,5 @@
-// C-style exports over numbers and slices, for hosts that link libexports.a. Everything is little-endian; a refusal is 65,536 plus its number, and 2^32 plus it
-// where the answer is a size.
+// C-style exports over numbers and slices, for hosts that link libdesk.a (exports/library), which joins these to those of `exports_scene` and `exports_far`.
+// Everything is little-endian; a refusal is 65,536 plus its number.
 pub mod floats;
 pub mod loops;
 pub mod minor_arcs;
-pub mod scenes;

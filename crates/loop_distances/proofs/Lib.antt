@@ -6,3 +6,4 @@ pub mod Settles
 pub mod Listed
 pub mod Parted
 pub mod Exact
+pub mod Unique

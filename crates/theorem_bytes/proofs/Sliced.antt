@@ -8,7 +8,7 @@ use lib.ListN.{length}
 use lib.Seq.{sets-eq, take-at}
 use lib.Dec.{ltb}
 use lib.Ieee.{Float}
-use borrow.Author.Tests.{ltb-false}
+use borrow.Author.Tests.{le-ltb, ltb-false}
 use Rattle.laws.specs.Loop.{first}
 use Rattle.laws.proofs.Firsts.{first-zero, first-fine, test-none}
 use Rattle.vec3.specs.declared.Vec3.{Vec3}
@@ -19,6 +19,8 @@ use Rattle.loop_header.specs.Loops.{loopFault}
 use Rattle.loop_header.proofs.Sounds.{sound, sound-most}
 use Rattle.loop_build.specs.Build as B
 use Rattle.loop_build.specs.Build.{Doubles, openedCount, refusal}
+use Rattle.loop_ask.specs.Questions.{queryFault}
+use Rattle.loop_distances.specs.Distances.{boundaryTold}
 use Rattle.loop_triangles.specs.Triangles as T
 use Rattle.bytes_loop.specs.Layout.{headerSize, headerAt, headerFault, headerBytes}
 use Rattle.bytes_loop.proofs.Faults.{header-state}
@@ -30,6 +32,7 @@ use Rattle.bytes_ask.specs.Ask.{numberOf, placeTold}
 use Rattle.bytes_cut.specs.Cut as C
 use Rattle.bytes_pair.specs.declared.Comparison.the-variants.{Relation}
 use Rattle.bytes_pair.specs.Pair.{toldOf, nextTold, floatsTold}
+use Rattle.bytes_distances.specs.Distances.{leaveFloat, farFloatsOutcome}
 use Rattle.theorem_built.specs.Built.{Loop, handedBack, AsBuilt, as-built}
 use Rattle.theorem_built.proofs.Whole.{whole}
 use Rattle.theorem_built.proofs.Theorem.{built}
@@ -133,6 +136,10 @@ module _ (a : Parts) (w : Filled a) where
   place : (p : Vec3) → faultOf (cleared p) ≡ 0 → numberOf (placeTold (a .header) (a .positions) (a .normals) (a .classes) p) ≤ 2
   place p f = rw frame (number 2 _ (built .contains-position (loopIn a) is-built p f))
 
+  far : (p : Vec3) → faultOf (cleared p) ≡ 0 → (out : List Float) → 1 ≤ length out → farFloatsOutcome (a .header) (a .positions) (a .normals) (a .classes) p out .number ≡ 0
+  unfolding boundaryTold queryFault leaveFloat
+  far p f out r = rw (frame, fine, f, le-ltb (length out) 1 r)
+
   triangles : (out : List ℕ) → 3 * C.triplesOf (headerAt (a .header)) ≤ length out → R.Cut (headerAt (a .header)) (C.floatsOutcome (a .header) (a .positions) (a .classes) out .number)
   unfolding C.floatsOutcome
   triangles out r =
@@ -155,6 +162,7 @@ sliced = record {
   header-fault = frame;
   loop-fault = fine;
   desk-place-f64 = place;
+  desk-far-f64 = far;
   desk-triangles-f64 = triangles;
   desk-pair-f64 = pair;
 }

@@ -12,6 +12,8 @@ use Rattle.vec3.specs.Vec.{cleared}
 use Rattle.judge.specs.Judge.{faultOf}
 use Rattle.minor_arc.proofs.Clears.{clear-once}
 use Rattle.loop_header.specs.Loops.{loopFault}
+use Rattle.loop_ask.specs.Questions.{queryFault}
+use Rattle.loop_distances.specs.Distances.{boundaryTold}
 use Rattle.loop_triangles.specs.Triangles as T
 use Rattle.wire.specs.Wire.{vecSize, floatOf, vecOf, numbersAt}
 use Rattle.wire.proofs.Lays.{numbers-length}
@@ -25,6 +27,8 @@ use Rattle.bytes_check.specs.Checking.{sixesFault, acceptsTold}
 use Rattle.bytes_pair.specs.declared.Comparison.{Comparison}
 use Rattle.bytes_pair.specs.declared.Comparison.the-variants.{Relation, Equivalence}
 use Rattle.bytes_pair.specs.Pair.{toldOf, nextTold, pairTold}
+use Rattle.bytes_distances.specs.Distances.{chordSize, leave, farOutcome}
+use Rattle.bytes_distances.specs.Distances as Far
 use Rattle.theorem_built.specs.Built.{Loop, AsBuilt, Answers, triangleCount}
 use Rattle.theorem_built.proofs.Theorem.{built, uncut}
 use Rattle.theorem_bytes.specs.Returned.{bytesOf, loopAt, Written, Cut, Checked, Related, Returned}
@@ -67,6 +71,10 @@ module _ (s : List ℕ) (w : Written s) where
 
     on-edge : numberOf (askTold OnEdge s p) ≤ 1
     on-edge = told OnEdge refl 1 (built .any-edge-contains-position (loopAt s) as-built (vecOf p 0) query)
+
+    far : (out : List ℕ) → chordSize ≤ length out → farOutcome s p out .number ≡ 0
+    unfolding Far.toldBy boundaryTold queryFault leave
+    far out r = rw (frame, fine, right-size (length p) vecSize e, query, le-ltb (length out) chordSize r)
 
   convex : numberOf (convexTold s) ≤ 1
   convex = rw frame (number 1 _ (built .is-convex (loopAt s) as-built))
@@ -117,6 +125,7 @@ returned = record {
   desk-place = place;
   desk-vertex = vertex;
   desk-on-edge = on-edge;
+  desk-far = far;
   desk-convex = convex;
   desk-simple = simple;
   desk-triangles = triangles;

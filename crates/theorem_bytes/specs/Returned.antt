@@ -21,6 +21,7 @@ use Rattle.bytes_cut.specs.Cut.{triplesOf, trianglesOutcome}
 use Rattle.bytes_check.specs.Checking.{acceptsTold}
 use Rattle.bytes_pair.specs.declared.Comparison.the-variants.{Relation, Equivalence}
 use Rattle.bytes_pair.specs.Pair.{pairTold}
+use Rattle.bytes_distances.specs.Distances.{chordSize, farOutcome}
 use Rattle.theorem_built.specs.Built.{Loop, AsBuilt, ask}
 
 -- SCOPE 32: the bytes of a loop, and the loop that is read from bytes
@@ -71,6 +72,7 @@ pub record Returned : Type 0 where
   pub desk-place : (s : List ℕ) → Written s → (p : List ℕ) → length p ≡ vecSize → faultOf (vecOf p 0) ≡ 0 → numberOf (askTold Place s p) ≤ 2
   pub desk-vertex : (s : List ℕ) → Written s → (p : List ℕ) → length p ≡ vecSize → faultOf (vecOf p 0) ≡ 0 → numberOf (askTold Vertex s p) ≤ 1
   pub desk-on-edge : (s : List ℕ) → Written s → (p : List ℕ) → length p ≡ vecSize → faultOf (vecOf p 0) ≡ 0 → numberOf (askTold OnEdge s p) ≤ 1
+  pub desk-far : (s : List ℕ) → Written s → (p : List ℕ) → length p ≡ vecSize → faultOf (vecOf p 0) ≡ 0 → (out : List ℕ) → chordSize ≤ length out → farOutcome s p out .number ≡ 0
   pub desk-convex : (s : List ℕ) → Written s → numberOf (convexTold s) ≤ 1
   pub desk-simple : (s : List ℕ) → Written s → numberOf (simpleTold s) ≤ 1
   pub desk-triangles : (s : List ℕ) → Written s → (out : List ℕ) → 6 * triplesOf (headerAt s) ≤ length out → Cut (headerAt s) (trianglesOutcome s out .number)

@@ -15,6 +15,7 @@ use Rattle.bytes_build.specs.Build.{FloatsOutcome, floatsOutcome}
 use Rattle.bytes_ask.specs.Ask.{numberOf, placeTold}
 use Rattle.bytes_cut.specs.Cut as Cut
 use Rattle.bytes_pair.specs.Pair.{floatsTold}
+use Rattle.bytes_distances.specs.Distances.{farFloatsOutcome}
 use Rattle.theorem_built.specs.Built.{Loop, AsBuilt, ask}
 use Rattle.theorem_bytes.specs.Returned as R
 
@@ -46,6 +47,8 @@ pub record Slices : Type 0 where
   pub header-fault : (a : Parts) → Filled a → headerFault (a .header) ≡ 0
   pub loop-fault : (a : Parts) → Filled a → ask loopFault (loopIn a) ≡ 0
   pub desk-place-f64 : (a : Parts) → Filled a → (p : Vec3) → faultOf (cleared p) ≡ 0 → numberOf (placeTold (a .header) (a .positions) (a .normals) (a .classes) p) ≤ 2
+  pub desk-far-f64 : (a : Parts) → Filled a → (p : Vec3) → faultOf (cleared p) ≡ 0 → (out : List Float) → 1 ≤ length out
+      → farFloatsOutcome (a .header) (a .positions) (a .normals) (a .classes) p out .number ≡ 0
   pub desk-triangles-f64 : (a : Parts) → Filled a → (out : List ℕ) → 3 * Cut.triplesOf (headerAt (a .header)) ≤ length out
       → R.Cut (headerAt (a .header)) (Cut.floatsOutcome (a .header) (a .positions) (a .classes) out .number)
   pub desk-pair-f64 : (a b : Parts) → Filled a → Filled b

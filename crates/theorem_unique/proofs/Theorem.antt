@@ -5,6 +5,7 @@ use mathlib.Core.List.{List}
 use Rattle.arcs.proofs.Unique as Arcs
 use Rattle.loop_build.proofs.Unique.{told-apart, build-unique}
 use Rattle.loop_ask.proofs.Unique as Ask
+use Rattle.loop_distances.proofs.Unique.{one-distance, distance-to-unique, distance-to-boundary-unique}
 use Rattle.loop_triangles.proofs.Unique.{one-cut, triangulate-unique, accepts-unique}
 use Rattle.loop_relate.proofs.Unique.{one-relation, relate-unique}
 use Rattle.bytes_loop.specs.Outcome.{Outcome, outcome}
@@ -23,6 +24,7 @@ definitions = record {
   built = told-apart;
   placed = Ask.one-placed;
   answered = Ask.one-answered;
+  distance = one-distance;
   cut = one-cut;
   related = one-relation;
 }
@@ -52,6 +54,8 @@ of-loops = record {
   is_convex = Ask.is-convex-unique;
   is_simple = Ask.is-simple-unique;
   is_equivalent = Ask.is-equivalent-unique;
+  distance_to = distance-to-unique;
+  distance_to_boundary = distance-to-boundary-unique;
   triangulate = triangulate-unique;
   accepts = accepts-unique;
   relate = relate-unique;
@@ -70,6 +74,10 @@ at-3 x y v w p q = let e = at-2 x y (v .1) (w .1) p q in (e .0, ap (λ u. (tt, u
 at-4 : {A : Type 0} {t : Outcome A} (x y : ℕ) (v w : Unit {0} × (Unit {0} × (Unit {0} × (List A × Unit {0})))) → outcome x (v .1 .1 .1 .0) ≡ t → outcome y (w .1 .1 .1 .0) ≡ t
     → (x ≡ y) × (v ≡ w)
 at-4 x y v w p q = let e = at-3 x y (v .1) (w .1) p q in (e .0, ap (λ u. (tt, u)) (e .1))
+
+at-8 : {A : Type 0} {t : Outcome A} (x y : ℕ) (v w : Unit {0} × (Unit {0} × (Unit {0} × (Unit {0} × (Unit {0} × (Unit {0} × (Unit {0} × (List A × Unit {0}))))))))
+    → outcome x (v .1 .1 .1 .1 .1 .1 .1 .0) ≡ t → outcome y (w .1 .1 .1 .1 .1 .1 .1 .0) ≡ t → (x ≡ y) × (v ≡ w)
+at-8 x y v w p q = let e = at-4 x y (v .1 .1 .1 .1) (w .1 .1 .1 .1) p q in (e .0, ap (λ u. (tt, (tt, (tt, (tt, u))))) (e .1))
 
 of-exports : OfExports
 of-exports = record {
@@ -97,6 +105,10 @@ of-exports = record {
   desk_arc_intersection = λ κs a. at-3;
   desk_arc_relate = λ κs a. at-3;
   desk_scene = λ κs a. at-2;
+  desk_radians = λ κs a x y v w p q. (p ∙ sym q, refl);
+  desk_far = λ κs a. at-3;
+  desk_arc_far = λ κs a. at-3;
+  desk_far_f64 = λ κs a. at-8;
 }
 
 of-probes : OfProbes

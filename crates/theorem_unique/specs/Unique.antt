@@ -5,6 +5,7 @@ use Rattle.outcomes.specs.Outcomes.{One, OneToOne}
 use Rattle.arcs.specs.Answers as Arcs
 use Rattle.loop_build.specs.Build as Build
 use Rattle.loop_ask.specs.Answers.{toldPlaced, toldAnswered}
+use Rattle.loop_distances.specs.Distances.{toldDistance}
 use Rattle.loop_triangles.specs.Triangles.{toldCut}
 use Rattle.loop_relate.specs.Relations.{toldRelated}
 use Rattle.root.proofs.root as Root
@@ -22,6 +23,8 @@ use Rattle.loop_ask.proofs.any_edge_contains_position as LoopAnyEdgeContainsPos
 use Rattle.loop_ask.proofs.is_convex as LoopIsConvex
 use Rattle.loop_ask.proofs.is_simple as LoopIsSimple
 use Rattle.loop_ask.proofs.is_equivalent as LoopIsEquivalent
+use Rattle.loop_distances.proofs.distance_to as ArcDistanceTo
+use Rattle.loop_distances.proofs.distance_to_boundary as LoopDistanceToBoundary
 use Rattle.loop_triangles.proofs.triangulate as LoopTriangulate
 use Rattle.loop_triangles.proofs.accepts as LoopAccepts
 use Rattle.loop_relate.proofs.relate as LoopRelate
@@ -48,7 +51,11 @@ use Rattle.exports.proofs.minor_arcs.desk_arc_side as DeskArcSide
 use Rattle.exports.proofs.minor_arcs.desk_arc_contains as DeskArcContains
 use Rattle.exports.proofs.minor_arcs.desk_arc_intersection as DeskArcIntersection
 use Rattle.exports.proofs.minor_arcs.desk_arc_relate as DeskArcRelate
-use Rattle.exports.proofs.scenes.desk_scene as DeskScene
+use Rattle.exports_scene.proofs.desk_scene as DeskScene
+use Rattle.exports_far.proofs.desk_radians as DeskRadians
+use Rattle.exports_far.proofs.desk_far as DeskFar
+use Rattle.exports_far.proofs.desk_arc_far as DeskArcFar
+use Rattle.exports_far.proofs.desk_far_f64 as DeskFarF64
 use Rattle.scene_run.proofs.run as SceneRun
 use Rattle.test_probes.proofs.leaf_vec as LeafVec
 use Rattle.test_probes.proofs.leaf_number as LeafNumber
@@ -65,6 +72,7 @@ pub record Definitions : Type 0 where
   pub built : OneToOne Build.told
   pub placed : OneToOne toldPlaced
   pub answered : OneToOne toldAnswered
+  pub distance : OneToOne toldDistance
   pub cut : OneToOne toldCut
   pub related : OneToOne toldRelated
 
@@ -82,7 +90,7 @@ pub record OfArcs : Type 0 where
   pub intersection : One ArcIntersection.Kinds.ps ArcIntersection.Kinds.r ArcIntersection.Reads.Post
   pub relate : One ArcRelate.Kinds.ps ArcRelate.Kinds.r ArcRelate.Reads.Post
 
--- crates loop_build, loop_ask, loop_triangles and loop_relate
+-- crates loop_build, loop_ask, loop_distances, loop_triangles and loop_relate
 pub record OfLoops : Type 0 where
   pub build : One LoopBuild.Kinds.ps LoopBuild.Kinds.r LoopBuild.Reads.Post
   pub contains_position : One LoopContainsPosition.Kinds.ps LoopContainsPosition.Kinds.r LoopContainsPosition.Reads.Post
@@ -91,11 +99,13 @@ pub record OfLoops : Type 0 where
   pub is_convex : One LoopIsConvex.Kinds.ps LoopIsConvex.Kinds.r LoopIsConvex.Reads.Post
   pub is_simple : One LoopIsSimple.Kinds.ps LoopIsSimple.Kinds.r LoopIsSimple.Reads.Post
   pub is_equivalent : One LoopIsEquivalent.Kinds.ps LoopIsEquivalent.Kinds.r LoopIsEquivalent.Reads.Post
+  pub distance_to : One ArcDistanceTo.Kinds.ps ArcDistanceTo.Kinds.r ArcDistanceTo.Reads.Post
+  pub distance_to_boundary : One LoopDistanceToBoundary.Kinds.ps LoopDistanceToBoundary.Kinds.r LoopDistanceToBoundary.Reads.Post
   pub triangulate : One LoopTriangulate.Kinds.ps LoopTriangulate.Kinds.r LoopTriangulate.Reads.Post
   pub accepts : One LoopAccepts.Kinds.ps LoopAccepts.Kinds.r LoopAccepts.Reads.Post
   pub relate : One LoopRelate.Kinds.ps LoopRelate.Kinds.r LoopRelate.Reads.Post
 
--- crate exports
+-- crates exports, exports_scene and exports_far
 pub record OfExports : Type 0 where
   pub desk_root : One DeskRoot.Kinds.ps DeskRoot.Kinds.r DeskRoot.Reads.Post
   pub desk_atan2 : One DeskAtan2.Kinds.ps DeskAtan2.Kinds.r DeskAtan2.Reads.Post
@@ -121,6 +131,10 @@ pub record OfExports : Type 0 where
   pub desk_arc_intersection : One DeskArcIntersection.Kinds.ps DeskArcIntersection.Kinds.r DeskArcIntersection.Reads.Post
   pub desk_arc_relate : One DeskArcRelate.Kinds.ps DeskArcRelate.Kinds.r DeskArcRelate.Reads.Post
   pub desk_scene : One DeskScene.Kinds.ps DeskScene.Kinds.r DeskScene.Reads.Post
+  pub desk_radians : One DeskRadians.Kinds.ps DeskRadians.Kinds.r DeskRadians.Reads.Post
+  pub desk_far : One DeskFar.Kinds.ps DeskFar.Kinds.r DeskFar.Reads.Post
+  pub desk_arc_far : One DeskArcFar.Kinds.ps DeskArcFar.Kinds.r DeskArcFar.Reads.Post
+  pub desk_far_f64 : One DeskFarF64.Kinds.ps DeskFarF64.Kinds.r DeskFarF64.Reads.Post
 
 -- crate test_probes
 pub record OfProbes : Type 0 where

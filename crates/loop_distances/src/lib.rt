@@ -80,11 +80,21 @@ fn is_beyond(a: MinorArc, p: Vec3) -> bool
     (r.dot_prod(a.start) < -WIDE) | (r.dot_prod(a.end) > WIDE)
 }
 
+// Whether the foot is surely off the arc. Most edges that are not beyond need no more tests.
+fn is_surely_off(a: MinorArc, p: Vec3) -> bool
+    ensures { λ r. ⌜ r ≡ S.surely a p ⌝ }
+{
+    if is_beyond(a, p) {
+        return is_tame(a.normal) & is_upright(a);
+    }
+    false
+}
+
 // Whether the distance is surely the nearer end's, with the squared chords to the ends at hand: by the foot, which is then off the arc, or as the source has it.
 fn is_settled(a: MinorArc, p: Vec3, start: ChordLength, end: ChordLength) -> bool
     ensures { λ r. ⌜ r ≡ B.settledBy a p start end ⌝ }
 {
-    if is_tame(a.normal) & is_upright(a) & is_beyond(a, p) {
+    if is_surely_off(a, p) {
         return true;
     }
     let side = ChordLength::new(a.start, a.end);

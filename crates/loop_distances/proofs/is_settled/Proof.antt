@@ -6,12 +6,10 @@ pub is-settled-spec : {M : Type 1} → statement M
 is-settled-spec =
     tie.close
     (tie.spec
-    (λ c κs. tt) (λ c κs. tt) (λ c κs. tt)
-    (λ c. let tests = c .before in
-    let h = simp (tests .is-beyond .ensures, tests .before .is-upright .ensures, tests .before .before .is-tame .ensures) at (c .if1 .taken) in
+    (λ c κs. tt)
+    (λ c. let h = simp (c .before .is-surely-off .ensures) at (c .if1 .taken) in
     simp (h))
     (λ c κs. tt)
     (λ c. let side = c .before .before .before in
-    let tests = side .before .before in
-    let h = simp (tests .is-beyond .ensures, tests .before .is-upright .ensures, tests .before .before .is-tame .ensures) at (side .before .if1 .left) in
+    let h = simp (side .before .before .is-surely-off .ensures) at (side .before .if1 .left) in
     simp (h, side .new .ensures)))

@@ -42,10 +42,11 @@ pub data Numbered : Line → Type 0 where
   three : (offset field index : ℕ) → Numbered (RefusedAt 3 offset field index)
   four : (offset field index : ℕ) → Numbered (RefusedAt 4 offset field index)
 
--- ---- the index of 3 and 4, in the list as given: an area's, closing position counted, or that of a place, which has one position
+-- ---- the index of 3 and 4, in the list as given: an area's, closing position counted, or that of a place or a far, which has one position
 pub data Listed (s : List ℕ) (at : ℕ) : ℕ → Type 0 where
   area : (count : ℕ) → IsArea s at count → Listed s at count
   place : Formed s at 2 26 → Listed s at 1
+  far : Formed s at 4 26 → Listed s at 1
 
 pub record Indexed (s : List ℕ) (at k index : ℕ) : Type 0 where
   pub count : ℕ

@@ -1,6 +1,6 @@
 -- SCOPE 51: the radians at the edges. Proved in proofs/Edges.antt, by computing. Definitions only.
 use mathlib.Core.Path.{_≡_}
-use mathlib.Core.Bool.{true}
+use mathlib.Core.Bool.{true, false}
 use lib.Ieee.{Float, nan, inf, binary64, ofBits, neg, lt}
 use Rattle.numbers.specs.F64.{zero, four, minus-one}
 use Rattle.angle.specs.Arctan.{PI}

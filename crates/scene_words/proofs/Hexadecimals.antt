@@ -3,7 +3,7 @@ use Prim.Native.Nat.{ℕ, zero, suc, _+_, _-_, _*_, _/_, _%_, _^_, _≤_, _<_}
 use mathlib.Core.Path.{_≡_, refl, sym, ap, _∙_}
 use mathlib.Core.Bool.{Bool, true, false, cond}
 use mathlib.Core.Logic.{_⊎_, inl, inr}
-use native.Mathlib.Nat.{pow-suc, div-div-eq-div-mul}
+use native.Mathlib.Nat.{zero-add, pow-suc, div-div-eq-div-mul}
 use native.Mathlib.Omega.{arith}
 use lib.ListN.{getD}
 use lib.Dec.{ltb}
@@ -47,7 +47,7 @@ module _ (n : ℕ) where
   unfolding hex
   digit-at i h =
       let e : 1 * i + 0 ≡ i = omega arith in
-      ap (λ (j : ℕ). getD (flat (hexAt n) 16 0) j 0) (sym e) ∙ getD-flat 0 1 (hexAt n) (λ j. refl) 16 0 i 0 h (omega arith)
+      ap (λ (j : ℕ). getD (flat (hexAt n) 16 0) j 0) (sym e) ∙ getD-flat 0 1 (hexAt n) (λ j. refl) 16 0 i 0 h (omega arith) ∙ rw (zero-add i)
 
 pub hexadecimals : Hexadecimals
 unfolding hex

@@ -1,17 +1,19 @@
 -- A far is refused as a place is: both are refused for the loop and then for the position. Assumes nothing.
 use Prim.Native.Nat.{ℕ, zero, suc}
-use mathlib.Core.Path.{_≡_, sym, ap, _∙_}
+use mathlib.Core.Path.{_≡_, ap}
 use mathlib.Core.Bool.{Bool, true, false}
 use mathlib.Core.List.{List}
 use native.Mathlib.Omega.{arith}
 use lib.Ieee.{Float}
 use Rattle.vec3.specs.declared.Vec3.{Vec3}
+use Rattle.vec3.specs.Vec.{cleared}
 use Rattle.chord_length.specs.declared.ChordLength.{ChordLength}
 use Rattle.loop_ask.specs.Answers as Ask
-use Rattle.loop_ask.specs.Questions.{placeAnswer}
+use Rattle.loop_ask.specs.Places.{placeOf}
+use Rattle.loop_ask.specs.Questions.{queryFault, placeAnswer}
 use Rattle.loop_distances.specs.Distances as Far
 use Rattle.scene_store.specs.declared.Area.{Area}
-use Rattle.scene_store.specs.Store.{placeIn}
+use Rattle.scene_store.specs.Store.{corners, codes, placeIn}
 use Rattle.scene_far.specs.declared.Said.the-variants as Said
 use Rattle.scene_far.specs.Far.{farIn, placeSaid, farSaid, saidIn, SameRefusals}
 
@@ -24,12 +26,27 @@ place-by : (fault n k : ℕ) (c : ChordLength) → Ask.judged fault (Ask.answer 
 place-by zero n k c e = absurd (let z : _≡_ {A = ℕ} 0 1 = cc in omega arith)
 place-by (suc fault) n k c e = let q : suc fault ≡ k = cc in ap Far.refused q
 
+module _ (a : Area) (ps ns : List Float) (cs : List ℕ) (p : Vec3) where
+  -- what both are refused for, and what each would answer
+  abbrev fault : ℕ
+  fault = queryFault (a .header) (corners a ps) (corners a ns) (codes a cs) (cleared p)
+
+  abbrev place : ℕ
+  place = placeOf (a .header) (corners a ps) (corners a ns) (cleared p)
+
+  abbrev chord : ChordLength
+  chord = Far.far (corners a ps) (corners a ns) (a .header .count) (cleared p)
+
+  far-place : (k : ℕ) → farIn a ps ns cs p ≡ Far.refused k → placeIn a ps ns cs p ≡ Ask.refused k
+  unfolding farIn placeIn Far.boundaryTold placeAnswer
+  far-place k e = far-by fault place k chord e
+
+  place-far : (k : ℕ) → placeIn a ps ns cs p ≡ Ask.refused k → farIn a ps ns cs p ≡ Far.refused k
+  unfolding farIn placeIn Far.boundaryTold placeAnswer
+  place-far k e = place-by fault place k chord e
+
 pub same-refusals : SameRefusals
-unfolding farIn placeIn Far.boundaryTold placeAnswer
-same-refusals = record {
-  far-place = λ a ps ns cs p k e. far-by _ _ k _ e;
-  place-far = λ a ps ns cs p k e. place-by _ _ k _ e;
-}
+same-refusals = record { far-place = far-place; place-far = place-far }
 
 -- what is said of either
 place-told : (number k : ℕ) (t : Ask.Told) → placeSaid number t ≡ Said.Refused k → t ≡ Ask.refused k

@@ -7,6 +7,6 @@ pub place-told-spec : {M : Type 1} → statement M
 place-told-spec =
     tie.close
     (tie.spec
-    (λ c. search needs) (λ c κs. search needs)
+    (λ c. search needs) (λ c κs. search needs) (λ c. search needs)
     (λ c. simp (c .before .before .said .given .1) (c .refusal .ensures))
     (λ c. simp (c .before .said2 .given .1)))

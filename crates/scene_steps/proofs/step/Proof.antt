@@ -15,7 +15,7 @@ place-found c = c .before .before .before .before
 abbrev pair-found : tie.After-pair-step-arg3 → tie.After-number3
 pair-found c = c .before .before .before .before
 
-abbrev far-found : tie.After-place-step2-arg3 → tie.After-number4
+abbrev far-found : tie.After-place-step-arg6 → tie.After-number4
 far-found c = c .before .before .before .before
 
 area-step-requires : tie.Need-area-step-requires

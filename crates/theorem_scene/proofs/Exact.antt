@@ -102,12 +102,12 @@ module _ (s : List ℕ) (w : Scene) where
   by-read _ (R.wrong h k f) = Why.why h k f
   by-read _ (R.an-area count f) = area-judged count f (judgeArea (w .areas) (w .given) (w .at) (numberOf s (w .at)) count) (J.area-why (w .areas) (w .given) (w .at) (numberOf s (w .at)) count)
   by-read _ (R.a-place f) =
-      place-judged false (numberOf s (w .at)) (Why.place f) (judgeNamed (w .areas) (w .at) (numberOf s (w .at) ∷ [])) (J.numbers-why (w .areas) (w .at) (numberOf s (w .at) ∷ []))
+      place-judged false (numberOf s (w .at)) (Why.place (Why.place f)) (judgeNamed (w .areas) (w .at) (numberOf s (w .at) ∷ [])) (J.numbers-why (w .areas) (w .at) (numberOf s (w .at) ∷ []))
   by-read _ (R.a-pair f) =
       let numbers = numberOf s (w .at) ∷ u16Of s (w .at + 8) ∷ [] in
       pair-judged (numberOf s (w .at)) (u16Of s (w .at + 8)) (Why.pair f) (judgeNamed (w .areas) (w .at) numbers) (J.numbers-why (w .areas) (w .at) numbers)
   by-read _ (R.a-far f) =
-      place-judged true (numberOf s (w .at)) (Why.far f) (judgeNamed (w .areas) (w .at) (numberOf s (w .at) ∷ [])) (J.numbers-why (w .areas) (w .at) (numberOf s (w .at) ∷ []))
+      place-judged true (numberOf s (w .at)) (Why.place (Why.far f)) (judgeNamed (w .areas) (w .at) (numberOf s (w .at) ∷ [])) (J.numbers-why (w .areas) (w .at) (numberOf s (w .at) ∷ []))
 
   step-why : StepWhy (step s w)
   unfolding step
@@ -124,9 +124,9 @@ module _ (s : List ℕ) (w : Scene) where
 
   asks-faulty : (numbers : List ℕ) → Asks s (w .at) numbers → {f : Fault} {field : ℕ} → judgeNamed (w .areas) (w .at) numbers ≡ Bad f field → step s w ≡ faulty f field
   unfolding placeStep pairStep
-  asks-faulty _ (Why.place h) e = read-step (R.place-read s (w .at) h) ∙ rw e
+  asks-faulty _ (Why.place (Why.place h)) e = read-step (R.place-read s (w .at) h) ∙ rw e
+  asks-faulty _ (Why.place (Why.far h)) e = read-step (R.far-read s (w .at) h) ∙ rw e
   asks-faulty _ (Why.pair h) e = read-step (R.pair-read s (w .at) h) ∙ rw e
-  asks-faulty _ (Why.far h) e = read-step (R.far-read s (w .at) h) ∙ rw e
 
   of-own : (count : ℕ) → IsArea s (w .at) count → (i : ℕ) → i < 1 → getD (numberOf s (w .at) ∷ []) i 0 ≡ 0 → step s w ≡ faulty NoNumber (numberField (w .at) i)
   of-own count h zero l e = area-faulty count h (J.zero-judged (w .areas) (w .given) (w .at) (numberOf s (w .at)) count e) ∙ ap (faulty NoNumber) (sym (first-field (w .at)))

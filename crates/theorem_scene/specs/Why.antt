@@ -51,15 +51,19 @@ pub record Formed (s : List ℕ) (at kind size : ℕ) : Type 0 where
 abbrev pub IsArea : List ℕ → ℕ → ℕ → Type 0
 IsArea s at count = Formed s at 1 (2 + 24 * count)
 
+-- a place or a far: the number of an area, and one position
+pub data IsPlace (s : List ℕ) (at : ℕ) : Type 0 where
+  place : Formed s at 2 26 → IsPlace s at
+  far : Formed s at 4 26 → IsPlace s at
+
 -- an area's number stands where the body starts
 abbrev pub numberOf : List ℕ → ℕ → ℕ
 numberOf s at = u16Of s (bodyField at)
 
 -- the numbers that a place, a pair or a far names
 pub data Asks (s : List ℕ) (at : ℕ) : List ℕ → Type 0 where
-  place : Formed s at 2 26 → Asks s at (numberOf s at ∷ [])
+  place : IsPlace s at → Asks s at (numberOf s at ∷ [])
   pair : Formed s at 3 4 → Asks s at (numberOf s at ∷ u16Of s (at + 8) ∷ [])
-  far : Formed s at 4 26 → Asks s at (numberOf s at ∷ [])
 
 -- the area numbers of a record: an area's own, or those that it names
 pub data Numbers (s : List ℕ) (at : ℕ) : List ℕ → Type 0 where

@@ -34,7 +34,11 @@ returns-far c =
     let no-place = no-pair .before in
     let no-area = no-place .before in
     simp (
-      ← no-area .before .number-at .ensures, ne-eqb _ _ (no-area .if1 .left), ne-eqb _ _ (no-place .if2 .left), ne-eqb _ _ (no-pair .if3 .left), eq-eqb _ _ (far .if4 .taken),
+      ← no-area .before .number-at .ensures,
+      ne-eqb _ _ (no-area .if1 .left),
+      ne-eqb _ _ (no-place .if2 .left),
+      ne-eqb _ _ (no-pair .if3 .left),
+      eq-eqb _ _ (far .if4 .taken),
       c .place-at2 .ensures,
     )
 

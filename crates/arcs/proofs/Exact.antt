@@ -30,7 +30,7 @@ arc-exact : (a : MinorArc) → Exactly (arcFault a) (ArcWhy a)
 unfolding arcFault
 arc-exact a = then-exact (ends-exact (a .start) (a .end)) (λ z. Judge.exact .vector (a .normal))
 
-query-exact : (a : MinorArc) (p : Vec3) → Exactly (queryFault a p) (QueryWhy a p)
+pub query-exact : (a : MinorArc) (p : Vec3) → Exactly (queryFault a p) (QueryWhy a p)
 query-exact a p = then-exact (arc-exact a) (λ z. Judge.exact .position p)
 
 pair-exact : (a b : MinorArc) → Exactly (pairFault a b) (PairWhy a b)

@@ -38,7 +38,7 @@ module _ (h : Header) (ps ns : List Float) (cs : List ℕ) where
   loop-exact : Exactly (loopFault h ps ns cs) (LoopWhy h ps ns cs)
   loop-exact = Header.exact h ps cs .whole-loop ns
 
-  query-exact : (p : Vec3) → Exactly (queryFault h ps ns cs p) (QueryWhy h ps ns cs p)
+  pub query-exact : (p : Vec3) → Exactly (queryFault h ps ns cs p) (QueryWhy h ps ns cs p)
   unfolding queryFault
   query-exact p = then-exact loop-exact (λ z. Judge.exact .position p)
 

@@ -12,7 +12,7 @@ use Rattle.laws.specs.Loop.{flat}
 use Rattle.laws.proofs.Blocks.{getD-flat}
 use Rattle.laws.proofs.Copies.{length-flat}
 use Rattle.scene_words.specs.Words.{hexByte, hexAt, hex}
-use Rattle.scene_words.specs.Hexadecimals.{digitOf, hexValueFrom, RightHex, Hexadecimals}
+use Rattle.scene_words.specs.Hexadecimals.{digitOf, hexValueFrom, Hexadecimals}
 
 -- ---- one digit
 byte-of : (d : ℕ) → d < 16 → (b : Bool) → ltb d 10 ≡ b → ((48 ≤ cond b (48 + d) (55 + d)) × (cond b (48 + d) (55 + d) ≤ 57)) ⊎ ((65 ≤ cond b (48 + d) (55 + d)) × (cond b (48 + d) (55 + d) ≤ 70))

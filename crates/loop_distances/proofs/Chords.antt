@@ -186,7 +186,7 @@ swap r a b R A B = go (ltb (units a) (units r)) (ltb (units b) (units r)) (ltb (
     second e g = sym (ap (λ (x : ChordLength). least x a) e ∙ g)
 
     go : (x y z w : Bool) → ltb (units a) (units r) ≡ x → ltb (units b) (units r) ≡ y → ltb (units b) (units a) ≡ z → ltb (units a) (units b) ≡ w
-        → least (least r a) b ≡ least (least r b) a
+      → least (least r a) b ≡ least (least r b) a
     go true true true true p q e g = absurd (omega (arith, is-below (units b) (units a) e, is-below (units a) (units b) g))
     go true true true false p q e g = first (least-second r a R A p) (least-second a b A B e) ∙ second (least-second r b R B q) (least-first b a B A g)
     go true true false true p q e g = first (least-second r a R A p) (least-first a b A B e) ∙ second (least-second r b R B q) (least-second b a B A g)
@@ -261,9 +261,9 @@ turned (fin false m e) (inf s) p q l = absurd q
 turned (fin false m e) (fin true n d) p q l = absurd q
 turned (fin false m e) (fin false n d) p q l =
     is-false (ltb (n * up d * down e) (m * up e * down d)) (λ (t : T (ltb (n * up d * down e) (m * up e * down d))).
-    let g : n * up d * down e < m * up e * down d = ltb→lt (n * up d * down e) (m * up e * down d) t in
-    let k : m * up e * down d ≤ n * up d * down e = l in
-    absurd (omega arith))
+      let g : n * up d * down e < m * up e * down d = ltb→lt (n * up d * down e) (m * up e * down d) t in
+      let k : m * up e * down d ≤ n * up d * down e = l in
+      absurd (omega arith))
 
 pub units-of-le : (x y : Float) → Held x → Held y → le x y ≡ true → inUnits x ≤ inUnits y
 units-of-le x y h k e =

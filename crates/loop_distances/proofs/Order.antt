@@ -69,10 +69,10 @@ lt-units (fin false m e) (fin false n d) h k =
     let y = whole n d (k .fit) in
     bool-same (ltb (m * up e * down d) (n * up d * down e)) (ltb u v)
     (λ (t : T (ltb (m * up e * down d) (n * up d * down e))).
-    lt→ltb u v (below-units (m * up e) (n * up d) (down e) (down d) u v (2 ^ 1074) (down-pos e) (down-pos d) (pow-pos 1074) x y (ltb→lt (m * up e * down d) (n * up d * down e) t)))
+      lt→ltb u v (below-units (m * up e) (n * up d) (down e) (down d) u v (2 ^ 1074) (down-pos e) (down-pos d) (pow-pos 1074) x y (ltb→lt (m * up e * down d) (n * up d * down e) t)))
     (λ (t : T (ltb u v)).
-    lt→ltb (m * up e * down d) (n * up d * down e)
-    (units-below (m * up e) (n * up d) (down e) (down d) u v (2 ^ 1074) (down-pos e) (down-pos d) (pow-pos 1074) x y (ltb→lt u v t)))
+      lt→ltb (m * up e * down d) (n * up d * down e)
+      (units-below (m * up e) (n * up d) (down e) (down d) u v (2 ^ 1074) (down-pos e) (down-pos d) (pow-pos 1074) x y (ltb→lt u v t)))
 
 -- two of the same units are one
 pub one-of : (x y : Float) → Held x → Held y → inUnits x ≡ inUnits y → x ≡ y

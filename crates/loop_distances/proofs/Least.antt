@@ -119,7 +119,7 @@ ring-least : (ps ns : List Float) (n : ℕ) (p : Vec3) → Least (farEdge ps ns 
 unfolding farRing
 ring-least ps ns n p = least-fold (farEdge ps ns n p) (λ i. far-within (edgeAt ps ns n i) p) n
 
-loop-within : (ps ns : List Float) (n : ℕ) (p : Vec3) → Within (far ps ns n p)
+pub loop-within : (ps ns : List Float) (n : ℕ) (p : Vec3) → Within (far ps ns n p)
 unfolding far
 loop-within ps ns n p = go (eqb n 0)
   where

@@ -244,7 +244,7 @@ fn far_in(
 }
 
 // The same of at most 16 edges.
-fn far_listed(
+fn far_many(
     positions: &[f64],
     normals: &[f64],
     n: usize,
@@ -270,6 +270,53 @@ fn far_listed(
         &mut units[..size],
         known,
     )
+}
+
+// The same of at most four edges, in small arrays: mostly there are no more, and filling large ones costs as much as the rest.
+fn far_few(
+    positions: &[f64],
+    normals: &[f64],
+    n: usize,
+    p: Vec3,
+    listed: &[usize],
+    known: ChordLength,
+) -> ChordLength
+    requires { ⌜ B.Sized (now positions) (now normals) n × B.Below n (now listed) × (length (now listed) ≤ 4) ⌝ }
+    ensures { λ r. ⌜ r ≡ B.listedLeast (now (positions .entry)) (now (normals .entry)) n p (now (listed .entry)) known ⌝ }
+{
+    let size = 3 * listed.len();
+    let mut work = [0.0f64; 12];
+    let mut across = [0.0f64; 12];
+    let mut units = [0.0f64; 12];
+    far_in(
+        positions,
+        normals,
+        n,
+        p,
+        listed,
+        &mut work[..size],
+        &mut across[..size],
+        &mut units[..size],
+        known,
+    )
+}
+
+// The same, by how many they are.
+fn far_listed(
+    positions: &[f64],
+    normals: &[f64],
+    n: usize,
+    p: Vec3,
+    listed: &[usize],
+    known: ChordLength,
+) -> ChordLength
+    requires { ⌜ B.Sized (now positions) (now normals) n × B.Below n (now listed) × (length (now listed) ≤ 16) ⌝ }
+    ensures { λ r. ⌜ r ≡ B.listedLeast (now (positions .entry)) (now (normals .entry)) n p (now (listed .entry)) known ⌝ }
+{
+    if listed.len() <= 4 {
+        return far_few(positions, normals, n, p, listed, known);
+    }
+    far_many(positions, normals, n, p, listed, known)
 }
 
 // A block of edges: first those that are settled, for which no root is taken, and then the others.

@@ -8,12 +8,13 @@ ghost use Rattle.scene_lines.specs.Lines as L;
 use loop_header::Header;
 use vec3::Insides;
 
-// What a line says. An answer and a relation go by their numbers; the last line of a scene is `End`, `Refused` (the number, the offsets of the record and of
+// What a line says. An answer and a relation go by their numbers, a squared chord by its bits; the last line of a scene is `End`, `Refused` (the number, the offsets of the record and of
 // the field) or `RefusedAt`, which adds the index of a position in its list.
 pub enum Line {
     Area(usize, Header, usize),
     Place(usize, u8),
     Pair(usize, usize, u8),
+    Far(usize, u64),
     End(usize),
     Refused(u8, usize, usize),
     RefusedAt(u8, usize, usize, usize),
@@ -83,6 +84,18 @@ fn put_pair(out: &mut [u8], at: usize, first: usize, second: usize, relation: u8
     scene_words::put_relation(out, d, relation)
 }
 
+fn put_far(out: &mut [u8], at: usize, number: usize, bits: u64) -> usize
+    requires { ⌜ at + 27 ≤ length (now out) ⌝ }
+    ensures { λ r. ⌜ Wrote (now (out .entry)) at (L.farLine number bits) (now (out .exit)) r ⌝ }
+    ensures { λ r. ⌜ r ≤ at + 27 ⌝ }
+{
+    let a = scene_words::put(out, at, b"far ");
+    let b = scene_words::put_number(out, a, number);
+    let c = scene_words::put(out, b, b" ");
+    let d = scene_words::put_bits(out, c, bits);
+    scene_words::put(out, d, b"\n")
+}
+
 fn put_end(out: &mut [u8], at: usize, records: usize) -> usize
     requires { ⌜ at + 10 ≤ length (now out) ⌝ }
     ensures { λ r. ⌜ Wrote (now (out .entry)) at (L.endLine records) (now (out .exit)) r ⌝ }
@@ -144,6 +157,7 @@ pub fn put_line(out: &mut [u8], at: usize, line: Line) -> usize
         Line::Area(number, h, triangles) => put_area(out, at, number, h, triangles),
         Line::Place(number, answer) => put_place(out, at, number, answer),
         Line::Pair(first, second, relation) => put_pair(out, at, first, second, relation),
+        Line::Far(number, bits) => put_far(out, at, number, bits),
         Line::End(records) => put_end(out, at, records),
         Line::Refused(number, offset, field) => put_refused(out, at, number, offset, field),
         Line::RefusedAt(number, offset, field, index) => {

@@ -10,7 +10,7 @@ use borrow.Author.Tests.{ltb-false, eqb-true}
 use Rattle.scene_records.specs.declared.Fault.the-variants.{CutShort, UnknownKind}
 use Rattle.scene_records.specs.declared.Read.{Read}
 use Rattle.scene_records.specs.declared.Read.the-variants.{End, Bad}
-use Rattle.scene_records.specs.Records.{u16Of, u32Of, kindField, areaAt, placeAt, pairAt, kindAt, readAt, sizeOf}
+use Rattle.scene_records.specs.Records.{u16Of, u32Of, kindField, areaAt, asked, placeAt, pairAt, kindAt, readAt, sizeOf}
 
 module _ (m at : ℕ) where
   either : (b : Bool) (x y : Read) → (b ≡ true → at + sizeOf x ≤ m) → (b ≡ false → at + sizeOf y ≤ m) → at + sizeOf (cond b x y) ≤ m
@@ -22,9 +22,13 @@ module _ (s : List ℕ) (at len : ℕ) (h : at + 6 + len ≤ length s) where
   unfolding areaAt
   area-size = either (length s) at _ _ _ (λ e. let q : len % 24 ≡ 2 = eqb-true _ _ e in omega arith) (λ e. omega arith)
 
-  place-size : at + sizeOf (placeAt s at len) ≤ length s
+  asked-size : (far : Bool) (number : ℕ) → at + 32 ≤ length s → at + sizeOf (asked far number) ≤ length s
+  asked-size true number g = g
+  asked-size false number g = g
+
+  place-size : (far : Bool) → at + sizeOf (placeAt far s at len) ≤ length s
   unfolding placeAt
-  place-size = either (length s) at _ _ _ (λ e. let q : len ≡ 26 = eqb-true _ _ e in omega arith) (λ e. omega arith)
+  place-size far = either (length s) at _ _ _ (λ e. let q : len ≡ 26 = eqb-true _ _ e in asked-size far _ (omega arith)) (λ e. omega arith)
 
   pair-size : at + sizeOf (pairAt s at len) ≤ length s
   unfolding pairAt
@@ -37,10 +41,12 @@ module _ (s : List ℕ) (at len : ℕ) (h : at + 6 + len ≤ length s) where
   unfolding kindAt
   kind-size =
       let k = u16Of s (at + 4) in
-      let r = cond (eqb k 3) (pairAt s at len) (Bad UnknownKind (kindField at)) in
-      either (length s) at (eqb k 1) (areaAt s at len) (cond (eqb k 2) (placeAt s at len) r) (λ e. area-size)
-      (λ e. either (length s) at (eqb k 2) (placeAt s at len) r (λ e′. place-size)
-      (λ e′. either (length s) at (eqb k 3) (pairAt s at len) (Bad UnknownKind (kindField at)) (λ e″. pair-size) (λ e″. none)))
+      let fars = cond (eqb k 4) (placeAt true s at len) (Bad UnknownKind (kindField at)) in
+      let pairs = cond (eqb k 3) (pairAt s at len) fars in
+      either (length s) at (eqb k 1) (areaAt s at len) (cond (eqb k 2) (placeAt false s at len) pairs) (λ e. area-size)
+      (λ e. either (length s) at (eqb k 2) (placeAt false s at len) pairs (λ q. place-size false)
+      (λ q. either (length s) at (eqb k 3) (pairAt s at len) fars (λ p. pair-size)
+      (λ p. either (length s) at (eqb k 4) (placeAt true s at len) (Bad UnknownKind (kindField at)) (λ t. place-size true) (λ t. none))))
 
 pub within : (s : List ℕ) (at : ℕ) → at ≤ length s → at + sizeOf (readAt s at) ≤ length s
 unfolding readAt

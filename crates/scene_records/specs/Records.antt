@@ -1,7 +1,7 @@
--- SCOPE 28: the records of a scene, each the length of its body (u32), its kind (u16) and the body, little-endian. SCOPE 46: the numbers of their faults, and
+-- SCOPE 28, 52: the records of a scene, each the length of its body (u32), its kind (u16) and the body, little-endian. SCOPE 46: the numbers of their faults, and
 -- the fields at which these stand. Definitions only.
 use Prim.Native.Nat.{ℕ, _+_, _*_, _/_, _%_}
-use mathlib.Core.Bool.{cond}
+use mathlib.Core.Bool.{Bool, true, false, cond}
 use mathlib.Core.List.{List}
 use lib.ListN.{length}
 use lib.Dec.{ltb, leb, eqb}
@@ -10,7 +10,7 @@ use Rattle.wire.specs.Wire as W
 use Rattle.scene_records.specs.declared.Fault.{Fault}
 use Rattle.scene_records.specs.declared.Fault.the-variants.{CutShort, UnknownKind, WrongLength, NoNumber, Repeated, NotMet, ManyAreas, ManyPositions}
 use Rattle.scene_records.specs.declared.Read.{Read}
-use Rattle.scene_records.specs.declared.Read.the-variants.{End, Bad, Area, Place, Pair}
+use Rattle.scene_records.specs.declared.Read.the-variants.{End, Bad, Area, Place, Pair, Far}
 
 abbrev pub u16Of : List ℕ → ℕ → ℕ
 u16Of = W.u16Of
@@ -46,9 +46,12 @@ numberField at index = at + 6 + 2 * index
 unfoldable pub areaAt : List ℕ → ℕ → ℕ → Read
 areaAt s at len = cond (eqb (len % 24) 2) (Area (u16Of s (at + 6)) (len / 24)) (Bad WrongLength (lengthField at))
 
--- kind 2: two bytes and a position
-unfoldable pub placeAt : List ℕ → ℕ → ℕ → Read
-placeAt s at len = cond (eqb len 26) (Place (u16Of s (at + 6))) (Bad WrongLength (lengthField at))
+-- kinds 2 and 4: two bytes and a position, where it lies or how far it is (SCOPE 52)
+abbrev pub asked : Bool → ℕ → Read
+asked far number = cond far (Far number) (Place number)
+
+unfoldable pub placeAt : Bool → List ℕ → ℕ → ℕ → Read
+placeAt far s at len = cond (eqb len 26) (asked far (u16Of s (at + 6))) (Bad WrongLength (lengthField at))
 
 -- kind 3: two numbers
 unfoldable pub pairAt : List ℕ → ℕ → ℕ → Read
@@ -57,8 +60,9 @@ pairAt s at len = cond (eqb len 4) (Pair (u16Of s (at + 6)) (u16Of s (at + 8))) 
 unfoldable pub kindAt : List ℕ → ℕ → ℕ → Read
 kindAt s at len =
     cond (eqb (u16Of s (at + 4)) 1) (areaAt s at len)
-    (cond (eqb (u16Of s (at + 4)) 2) (placeAt s at len)
-    (cond (eqb (u16Of s (at + 4)) 3) (pairAt s at len) (Bad UnknownKind (kindField at))))
+    (cond (eqb (u16Of s (at + 4)) 2) (placeAt false s at len)
+    (cond (eqb (u16Of s (at + 4)) 3) (pairAt s at len)
+    (cond (eqb (u16Of s (at + 4)) 4) (placeAt true s at len) (Bad UnknownKind (kindField at)))))
 
 -- what stands at an offset. SCOPE 46: the field of a record that is cut short is the input's end
 unfoldable pub readAt : List ℕ → ℕ → Read
@@ -74,6 +78,7 @@ sizeOf (Bad fault field) = 0
 sizeOf (Area number count) = 8 + 24 * count
 sizeOf (Place number) = 32
 sizeOf (Pair first second) = 10
+sizeOf (Far number) = 32
 
 -- the floats of n positions from an offset on
 abbrev pub floatsAt : List ℕ → ℕ → ℕ → List Float

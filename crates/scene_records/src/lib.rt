@@ -41,6 +41,7 @@ pub enum Read {
     Area(usize, usize),
     Place(usize),
     Pair(usize, usize),
+    Far(usize),
 }
 
 // The number at an offset, as wide as an index.
@@ -60,6 +61,17 @@ fn length_at(s: &[u8], at: usize) -> usize
     wire::u32_at(s, at) as usize
 }
 
+// Kinds 2 and 4 ask of the area with a number where a position lies, or how `far` it is.
+fn asked(number: usize, far: bool) -> Read
+    ensures { λ r. ⌜ r ≡ R.asked far number ⌝ }
+{
+    if far {
+        Read::Far(number)
+    } else {
+        Read::Place(number)
+    }
+}
+
 fn area_at(s: &[u8], at: usize, len: usize) -> Read
     requires { ⌜ (length (now s) ≤ 65536) × (at + 6 + len ≤ length (now s)) ⌝ }
     ensures { λ r. ⌜ r ≡ R.areaAt (now (s .entry)) at len ⌝ }
@@ -70,14 +82,14 @@ fn area_at(s: &[u8], at: usize, len: usize) -> Read
     Read::Area(number_at(s, at + 6), len / 24)
 }
 
-fn place_at(s: &[u8], at: usize, len: usize) -> Read
+fn place_at(s: &[u8], at: usize, len: usize, far: bool) -> Read
     requires { ⌜ (length (now s) ≤ 65536) × (at + 6 + len ≤ length (now s)) ⌝ }
-    ensures { λ r. ⌜ r ≡ R.placeAt (now (s .entry)) at len ⌝ }
+    ensures { λ r. ⌜ r ≡ R.placeAt far (now (s .entry)) at len ⌝ }
 {
     if len != 26 {
         return Read::Bad(Fault::WrongLength, at);
     }
-    Read::Place(number_at(s, at + 6))
+    asked(number_at(s, at + 6), far)
 }
 
 fn pair_at(s: &[u8], at: usize, len: usize) -> Read
@@ -100,10 +112,13 @@ fn kind_at(s: &[u8], at: usize, len: usize) -> Read
         return area_at(s, at, len);
     }
     if kind == 2 {
-        return place_at(s, at, len);
+        return place_at(s, at, len, false);
     }
     if kind == 3 {
         return pair_at(s, at, len);
+    }
+    if kind == 4 {
+        return place_at(s, at, len, true);
     }
     Read::Bad(Fault::UnknownKind, at + 4)
 }

@@ -1,13 +1,14 @@
--- A line that a record comes to is none that ends a text, and its numbers have at most five digits; so have the numbers of a fault and of a refusal. Assumes nothing.
+-- A line that a record comes to is none that ends a text, its numbers have at most five digits, its bits are below 2^64; and so few digits have the numbers of a
+-- fault and of a refusal. Assumes nothing.
 use Prim.Native.Nat.{ℕ, zero, suc, _+_, _-_, _*_, _/_, _%_, _≤_, _<_}
-use mathlib.Core.Path.{_≡_, refl}
+use mathlib.Core.Path.{_≡_, refl, subst}
 use mathlib.Core.Bool.{Bool, true, false, cond}
 use mathlib.Core.List.{List, [], _∷_}
 use native.Mathlib.Omega.{arith}
 use lib.ListN.{length, getD, length-take}
 use lib.Dec.{ltb, leb, eqb}
 use lib.Ieee.{Float}
-use Rattle.wire.specs.Wire.{vecOf}
+use Rattle.vec3.specs.declared.Vec3.{Vec3}
 use Rattle.loop_header.specs.declared.State.{State}
 use Rattle.loop_header.specs.declared.State.the-variants.{Empty, Full, Ring}
 use Rattle.loop_header.specs.Loops.{cutFault}
@@ -19,9 +20,15 @@ use Rattle.scene_lines.specs.declared.Line.{Line}
 use Rattle.scene_records.specs.declared.Fault.the-variants.{CutShort, UnknownKind, WrongLength, NoNumber, Repeated, ManyAreas, ManyPositions}
 use Rattle.scene_records.specs.declared.Read.{Read}
 use Rattle.scene_records.specs.declared.Read.the-variants as Read
-use Rattle.scene_records.specs.Records.{u16Of, u32Of, kindField, bodyField, areaAt, placeAt, pairAt, kindAt, readAt, floatsAt}
+use Rattle.scene_records.specs.Records.{u16Of, u32Of, kindField, bodyField, areaAt, asked, placeAt, pairAt, kindAt, readAt, floatsAt}
 use Rattle.scene_store.specs.declared.Area.{Area}
 use Rattle.scene_store.specs.Store.{corners, codes, blank, counted, triangleCount, placeIn, pairIn}
+use Rattle.scene_far.specs.declared.Said.{Said}
+use Rattle.scene_far.specs.declared.Said.the-variants as Said
+use Rattle.scene_far.specs.Far.{farIn, placeSaid, farSaid, saidIn}
+use Rattle.scene_far.proofs.Refusals.{same-refusals}
+use Rattle.scene_far.proofs.Chords.{Bits, far-bits}
+use Rattle.loop_distances.specs.Distances as Far
 use Rattle.scene_store.proofs.Counts.{built-count}
 use Rattle.scene_notes.specs.declared.Judged.{Judged}
 use Rattle.scene_notes.specs.declared.Judged.the-variants.{Fine, Bad}
@@ -32,9 +39,9 @@ use Rattle.judge.specs.Judge.{isRefused, firstRefused}
 use Rattle.laws.specs.Loop.{firstAt}
 use Rattle.laws.proofs.Loops.{firstAt-le}
 use Rattle.scene_steps.specs.Steps.{Step, ended, faulty, refusedAt, wrote, ofPositions, refusal, areaTold, areaOut, areaMade, areaBy, areaStep, met, Good}
-use Rattle.scene_steps.specs.Steps.{placeTold, placeMet, placeBy, placeStep, pairTold, pairMet, pairBy, pairStep, stepBy, step}
+use Rattle.scene_steps.specs.Steps.{placeTold, saidOf, placeMet, placeBy, placeStep, pairTold, pairMet, pairBy, pairStep, stepBy, step}
 use Rattle.scene_steps.specs.Steps as S
-use Rattle.scene_run.specs.Texts.{Each, isLast, numbersOf}
+use Rattle.scene_run.specs.Texts.{Each, isLast, numbersOf, bitsOf}
 use Rattle.scene_run.proofs.Refusals.{Few, place-few, pair-few, BuiltFew, built-few}
 
 -- ---- numbers as they are read: two bytes
@@ -49,6 +56,7 @@ ReadSmall (Read.Bad f field) = field < 100000
 ReadSmall (Read.Area number count) = number < 65536
 ReadSmall (Read.Place number) = number < 65536
 ReadSmall (Read.Pair number other) = (number < 65536) × (other < 65536)
+ReadSmall (Read.Far number) = number < 65536
 
 either : (b : Bool) (x y : Read) → ReadSmall x → ReadSmall y → ReadSmall (cond b x y)
 either true x y f g = f
@@ -62,9 +70,13 @@ module _ (s : List ℕ) (bytes : (i : ℕ) → i < length s → getD s i 0 < 256
   unfolding areaAt
   area-read len = either (eqb (len % 24) 2) (Read.Area (u16Of s (at + 6)) (len / 24)) (Read.Bad WrongLength at) (two-bytes (at + 6)) (omega arith)
 
-  place-read : (len : ℕ) → ReadSmall (placeAt s at len)
+  asked-read : (far : Bool) (number : ℕ) → number < 65536 → ReadSmall (asked far number)
+  asked-read true number h = h
+  asked-read false number h = h
+
+  place-read : (far : Bool) (len : ℕ) → ReadSmall (placeAt far s at len)
   unfolding placeAt
-  place-read len = either (eqb len 26) (Read.Place (u16Of s (at + 6))) (Read.Bad WrongLength at) (two-bytes (at + 6)) (omega arith)
+  place-read far len = either (eqb len 26) (asked far (u16Of s (at + 6))) (Read.Bad WrongLength at) (asked-read far _ (two-bytes (at + 6))) (omega arith)
 
   pair-read : (len : ℕ) → ReadSmall (pairAt s at len)
   unfolding pairAt
@@ -74,9 +86,12 @@ module _ (s : List ℕ) (bytes : (i : ℕ) → i < length s → getD s i 0 < 256
   unfolding kindAt
   kind-read len =
       let k = u16Of s (at + 4) in
-      let r = cond (eqb k 3) (pairAt s at len) (Read.Bad UnknownKind (kindField at)) in
-      either (eqb k 1) (areaAt s at len) (cond (eqb k 2) (placeAt s at len) r) (area-read len)
-      (either (eqb k 2) (placeAt s at len) r (place-read len) (either (eqb k 3) (pairAt s at len) (Read.Bad UnknownKind (kindField at)) (pair-read len) (omega arith)))
+      let fars = cond (eqb k 4) (placeAt true s at len) (Read.Bad UnknownKind (kindField at)) in
+      let pairs = cond (eqb k 3) (pairAt s at len) fars in
+      either (eqb k 1) (areaAt s at len) (cond (eqb k 2) (placeAt false s at len) pairs) (area-read len)
+      (either (eqb k 2) (placeAt false s at len) pairs (place-read false len)
+      (either (eqb k 3) (pairAt s at len) fars (pair-read len)
+      (either (eqb k 4) (placeAt true s at len) (Read.Bad UnknownKind (kindField at)) (place-read true len) (omega arith))))
 
   read-small : ReadSmall (readAt s at)
   unfolding readAt
@@ -129,6 +144,7 @@ triangles-few a ps cs =
 pub record Small (line : Line) : Type 0 where
   pub not-last : isLast line ≡ false
   pub numbers : Each (λ (n : ℕ). n < 100000) (numbersOf line)
+  pub bits : Each (λ (n : ℕ). n < 18446744073709551616) (bitsOf line)
 
 abbrev pub StepSmall : Step → Type 0
 StepSmall ended = Unit {0}
@@ -150,13 +166,32 @@ refusal-small : (s : List ℕ) (at count k : ℕ) → count ≤ 1024 → k ≤ 9
 unfolding refusal
 refusal-small s at count k h g = refusal-by (ofPositions k) k _ g (index-small s at count h)
 
-place-small : (s : List ℕ) (w : Scene) (number : ℕ) → number < 65536 → (t : Told) → Few t → StepSmall (placeTold s w number t)
-place-small s w number h (refused k) f = refusal-small s (w .at + 8) 1 k (omega arith) f
-place-small s w number h (answer n) f = record { not-last = refl; numbers = (omega arith, tt) }
+-- what is said of a place
+abbrev SaidSmall : Said → Type 0
+SaidSmall (Said.Refused k) = k ≤ 9
+SaidSmall (Said.Line line) = Small line
+
+place-small : (s : List ℕ) (w : Scene) (t : Said) → SaidSmall t → StepSmall (placeTold s w t)
+place-small s w (Said.Refused k) f = refusal-small s (w .at + 8) 1 k (omega arith) f
+place-small s w (Said.Line line) f = f
+
+module _ (number : ℕ) (h : number < 65536) (a : Area) (ps ns : List Float) (cs : List ℕ) (p : Vec3) where
+  place-line : (t : Told) → placeIn a ps ns cs p ≡ t → SaidSmall (placeSaid number t)
+  place-line (refused k) e = subst Few e (place-few a ps ns cs p)
+  place-line (answer n) e = record { not-last = refl; numbers = (omega arith, tt); bits = tt }
+
+  far-line : (t : Far.Told) → farIn a ps ns cs p ≡ t → SaidSmall (farSaid number t)
+  far-line (Far.refused k) e = subst Few (same-refusals .far-place a ps ns cs p k e) (place-few a ps ns cs p)
+  far-line (Far.chord c) e = record { not-last = refl; numbers = (omega arith, tt); bits = (subst Bits e (far-bits a ps ns cs p), tt) }
+
+  said-small : (far : Bool) → SaidSmall (saidIn far number a ps ns cs p)
+  unfolding saidIn
+  said-small true = far-line (farIn a ps ns cs p) refl
+  said-small false = place-line (placeIn a ps ns cs p) refl
 
 pair-small : (w : Scene) (number other : ℕ) → (number < 65536) × (other < 65536) → (t : Told) → Few t → StepSmall (pairTold w number other t)
 pair-small w number other h (refused k) f = f
-pair-small w number other h (answer n) f = record { not-last = refl; numbers = (omega (arith, h .0), (omega (arith, h .1), tt)) }
+pair-small w number other h (answer n) f = record { not-last = refl; numbers = (omega (arith, h .0), (omega (arith, h .1), tt)); bits = tt }
 
 -- ---- what a record is judged for
 abbrev JudgedSmall : Judged → Type 0
@@ -199,7 +234,7 @@ module _ (s : List ℕ) (w : Scene) where
       let m = allowed (w .areas) (w .given) (w .at) number count g .few in
       let o = areaOut s w count in
       let d = triangles-few (N.areaAt (w .used) number k) (o .positions) (o .classes) in
-      record { not-last = refl; numbers = (omega arith, (omega (arith, c, m), (omega (arith, c, m, d), tt))) }
+      record { not-last = refl; numbers = (omega arith, (omega (arith, c, m), (omega (arith, c, m, d), tt))); bits = tt }
 
   judged-small : (number count : ℕ) → number < 65536 → (j : Judged) → j ≡ judgeArea (w .areas) (w .given) (w .at) number count → JudgedSmall j → StepSmall (areaBy j s w number count)
   unfolding areaMade
@@ -207,12 +242,10 @@ module _ (s : List ℕ) (w : Scene) where
   judged-small number count h Fine q z =
       area-small number count h q (areaOut s w count .answer) refl (built-few _ (w .used) (w .positions) (w .normals) (w .classes))
 
-  place-by : (number : ℕ) → number < 65536 → (j : Judged) → JudgedSmall j → StepSmall (placeBy j s w number)
+  place-by : (far : Bool) (number : ℕ) → number < 65536 → (j : Judged) → JudgedSmall j → StepSmall (placeBy j far s w number)
   unfolding placeMet
-  place-by number h (Bad f field) z = z
-  place-by number h Fine z =
-      let p = vecOf s (w .at + 8) in
-      place-small s w number h (placeIn (met w number) (w .positions) (w .normals) (w .classes) p) (place-few (met w number) (w .positions) (w .normals) (w .classes) p)
+  place-by far number h (Bad f field) z = z
+  place-by far number h Fine z = place-small s w (saidOf far s w number) (said-small number h (met w number) (w .positions) (w .normals) (w .classes) _ far)
 
   pair-by : (number other : ℕ) → (number < 65536) × (other < 65536) → (j : Judged) → JudgedSmall j → StepSmall (pairBy j w number other)
   unfolding pairMet
@@ -227,8 +260,9 @@ module _ (s : List ℕ) (w : Scene) where
     by-read Read.End h = tt
     by-read (Read.Bad f field) h = h
     by-read (Read.Area number count) h = judged-small number count h (judgeArea (w .areas) (w .given) (w .at) number count) refl (area-judged w g number count)
-    by-read (Read.Place number) h = place-by number h (judgeNamed (w .areas) (w .at) (number ∷ [])) (numbers-judged w g (number ∷ []) (omega arith))
+    by-read (Read.Place number) h = place-by false number h (judgeNamed (w .areas) (w .at) (number ∷ [])) (numbers-judged w g (number ∷ []) (omega arith))
     by-read (Read.Pair number other) h = pair-by number other h (judgeNamed (w .areas) (w .at) (number ∷ other ∷ [])) (numbers-judged w g (number ∷ other ∷ []) (omega arith))
+    by-read (Read.Far number) h = place-by true number h (judgeNamed (w .areas) (w .at) (number ∷ [])) (numbers-judged w g (number ∷ []) (omega arith))
 
   pub step-small : ((i : ℕ) → i < length s → getD s i 0 < 256) → Good s w → StepSmall (step s w)
   unfolding step

@@ -1,4 +1,4 @@
--- No refusal of a list, a place or a pair has a number above 9: there is no reason for one. Assumes nothing.
+-- No refusal of a list, a place, a far or a pair has a number above 9: there is no reason for one. Assumes nothing.
 use Prim.Native.Nat.{ℕ, _*_, _≤_}
 use mathlib.Core.Path.{_≡_, refl}
 use mathlib.Core.List.{List}

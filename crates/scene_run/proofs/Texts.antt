@@ -1,5 +1,5 @@
--- A scene's text goes on line by line to one that ends it: each record has eight bytes or more, so that no text breaks off, and each number at most five digits.
--- Assumes nothing.
+-- A scene's text goes on line by line to one that ends it: each record has eight bytes or more, so that no text breaks off, and each number at most five digits,
+-- or in hexadecimal sixteen. Assumes nothing.
 use Prim.Native.Nat.{ℕ, zero, suc, _+_, _≤_, _<_}
 use mathlib.Core.Path.{_≡_, refl, subst}
 use mathlib.Core.Bool.{Bool, true, false, cond}
@@ -9,9 +9,11 @@ use native.Mathlib.Omega.{arith}
 use lib.ListN.{length, getD}
 use lib.Dec.{ltb}
 use borrow.Author.Tests.{ltb-false}
-use Rattle.scene_words.specs.Words.{decimal}
+use Rattle.scene_words.specs.Words.{decimal, hex}
 use Rattle.scene_words.specs.Decimals.{Right}
+use Rattle.scene_words.specs.Hexadecimals.{RightHex}
 use Rattle.scene_words.proofs.Decimals.{decimals}
+use Rattle.scene_words.proofs.Hexadecimals.{hexadecimals}
 use Rattle.scene_lines.specs.declared.Line.{Line}
 use Rattle.scene_lines.specs.declared.Line.the-variants.{End}
 use Rattle.scene_records.specs.declared.Fault.{Fault}
@@ -22,13 +24,26 @@ use Rattle.scene_steps.specs.Steps.{Step, ended, faulty, refused, refusedAt, wr
 use Rattle.scene_steps.proofs.Goods.{onward}
 use Rattle.scene_run.specs.Run.{Ending, whole, tooLong, Told, lastLine, ends, goes, toldBy, toldFrom, starting, toldOf, blankFloats, blankCodes, sceneTold, sceneText}
 use Rattle.scene_run.specs.Run as Run
-use Rattle.scene_run.specs.Texts.{Each, isLast, numbersOf, Printed, Texts}
+use Rattle.scene_run.specs.Texts.{Each, isLast, numbersOf, bitsOf, Printed, Texts}
 use Rattle.scene_run.proofs.Numbers.{Small, StepSmall, step-small}
 
 -- ---- numbers of at most five digits
 printed : (l : List ℕ) → Each (λ (n : ℕ). n < 100000) l → Each (λ (n : ℕ). Right n (decimal n)) l
 printed [] h = tt
 printed (n ∷ l) h = (decimals n (h .0), printed l (h .1))
+
+-- bits of at most sixteen
+shown : (l : List ℕ) → Each (λ (n : ℕ). n < 18446744073709551616) l → Each (λ (n : ℕ). RightHex n (hex n)) l
+shown [] h = tt
+shown (n ∷ l) h = (hexadecimals n (h .0), shown l (h .1))
+
+-- no last line has bits
+no-bits : (e : Ending) → Each (λ (n : ℕ). RightHex n (hex n)) (bitsOf (lastLine e))
+no-bits (whole records) = tt
+no-bits tooLong = tt
+no-bits (Run.faulty at f field) = tt
+no-bits (Run.refused at k) = tt
+no-bits (Run.refusedAt at k index) = tt
 
 -- ---- what is told from a record on, of which `records` were read before
 record LinedFrom (records : ℕ) (t : Told) : Type 0 where
@@ -50,7 +65,7 @@ whole-alone : (records : ℕ) → records < 100000 → LinedFrom records (ends (
 whole-alone records h = record {
   none-before = tt;
   right-before = tt;
-  right-last = (decimals records h, tt);
+  right-last = record { decimals = (decimals records h, tt); hexadecimals = tt };
   counted = λ n e. let q : records ≡ n = cc in omega arith;
 }
 
@@ -59,7 +74,7 @@ refused-alone : (records : ℕ) (e : Ending) → Each (λ (n : ℕ). n < 100000)
 refused-alone records e h other = record {
   none-before = tt;
   right-before = tt;
-  right-last = printed (numbersOf (lastLine e)) h;
+  right-last = record { decimals = printed (numbersOf (lastLine e)) h; hexadecimals = no-bits e };
   counted = λ n q. absurd (other n q);
 }
 
@@ -67,7 +82,7 @@ refused-alone records e h other = record {
 line-ahead : (records : ℕ) (line : Line) (t : Told) → Small line → LinedFrom (records + 1) t → LinedFrom records (goes line t)
 line-ahead records line t f r = record {
   none-before = (f .not-last, r .none-before);
-  right-before = (printed (numbersOf line) (f .numbers), r .right-before);
+  right-before = (record { decimals = printed (numbersOf line) (f .numbers); hexadecimals = shown (bitsOf line) (f .bits) }, r .right-before);
   right-last = r .right-last;
   counted = λ n e. omega (arith, r .counted n e);
 }

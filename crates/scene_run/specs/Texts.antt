@@ -1,14 +1,15 @@
--- SCOPE 30: a scene's text is whole lines, of which the last alone is `end` or `refused`, and every decimal in them is right. Proved in proofs/Texts.antt.
--- Definitions only.
+-- SCOPE 30, 52: a scene's text is whole lines, of which the last alone is `end` or `refused`, and every decimal and every hexadecimal in them is right. Proved in
+-- proofs/Texts.antt. Definitions only.
 use Prim.Native.Nat.{ℕ, _<_}
 use mathlib.Core.Path.{_≡_}
 use mathlib.Core.Bool.{Bool, true, false}
 use mathlib.Core.List.{List, [], _∷_, _++_}
 use lib.ListN.{length, getD}
-use Rattle.scene_words.specs.Words.{decimal}
+use Rattle.scene_words.specs.Words.{decimal, hex}
 use Rattle.scene_words.specs.Decimals.{Right}
+use Rattle.scene_words.specs.Hexadecimals.{RightHex}
 use Rattle.scene_lines.specs.declared.Line.{Line}
-use Rattle.scene_lines.specs.declared.Line.the-variants.{Area, Place, Pair, End, Refused, RefusedAt}
+use Rattle.scene_lines.specs.declared.Line.the-variants.{Area, Place, Pair, Far, End, Refused, RefusedAt}
 use Rattle.scene_lines.specs.Lines.{lineText}
 use Rattle.scene_run.specs.Run.{textOf, sceneText}
 
@@ -22,6 +23,7 @@ abbrev pub isLast : Line → Bool
 isLast (Area number h triangles) = false
 isLast (Place number answer) = false
 isLast (Pair first second relation) = false
+isLast (Far number bits) = false
 isLast (End records) = true
 isLast (Refused number offset field) = true
 isLast (RefusedAt number offset field index) = true
@@ -31,13 +33,25 @@ abbrev pub numbersOf : Line → List ℕ
 numbersOf (Area number h triangles) = number ∷ h .count ∷ triangles ∷ []
 numbersOf (Place number answer) = number ∷ []
 numbersOf (Pair first second relation) = first ∷ second ∷ []
+numbersOf (Far number bits) = number ∷ []
 numbersOf (End records) = records ∷ []
 numbersOf (Refused number offset field) = number ∷ offset ∷ field ∷ []
 numbersOf (RefusedAt number offset field index) = number ∷ offset ∷ field ∷ index ∷ []
 
+-- the bits that a line prints in hexadecimal
+abbrev pub bitsOf : Line → List ℕ
+bitsOf (Area number h triangles) = []
+bitsOf (Place number answer) = []
+bitsOf (Pair first second relation) = []
+bitsOf (Far number bits) = bits ∷ []
+bitsOf (End records) = []
+bitsOf (Refused number offset field) = []
+bitsOf (RefusedAt number offset field index) = []
+
 -- each of them is what its digits say
-abbrev pub Printed : Line → Type 0
-Printed line = Each (λ (n : ℕ). Right n (decimal n)) (numbersOf line)
+pub record Printed (line : Line) : Type 0 where
+  pub decimals : Each (λ (n : ℕ). Right n (decimal n)) (numbersOf line)
+  pub hexadecimals : Each (λ (n : ℕ). RightHex n (hex n)) (bitsOf line)
 
 -- the text is these lines and a last one, after which nothing comes; an `end` counts them, one line for each record
 pub record Lined (text : List ℕ) : Type 0 where

@@ -59,7 +59,8 @@ fn run_in(
 }
 
 // What the scene program prints for an input, written to `out`; answers how many bytes that is. 196,989 bytes are room for any scene:
-// a line has at most three bytes for each byte of its record, an area's 21 more, of which there are 16; the last line has at most 35, and 45 are kept for it.
+// a line has at most three bytes for each byte of its record, a far's no more than 27 for 32, an area's 21 more, of which there are 16; the last line has at most
+// 35, and 45 are kept for it.
 pub fn run(s: &[u8], out: &mut [u8]) -> usize
     requires { ⌜ 196989 ≤ length (now out) ⌝ }
     ensures { λ r. ⌜ Wrote (now (out .entry)) 0 (Sc.sceneText (now (s .entry))) (now (out .exit)) r ⌝ }

@@ -8,13 +8,13 @@ use native.Mathlib.Nat.{eq-or-lt-of-le}
 use native.Mathlib.Omega.{arith}
 use lib.ListN.{length, getD, length-append, List·getD-append}
 use lib.Seq.{getD-append-add}
-use Rattle.wire.specs.Wire.{vecOf}
 use Rattle.loop_build.specs.Build as B
 use Rattle.loop_ask.specs.Answers.{Told}
 use Rattle.loop_ask.specs.Answers as Ask
 use Rattle.scene_lines.specs.declared.Line.{Line}
 use Rattle.scene_lines.specs.declared.Line.the-variants as Line
 use Rattle.scene_lines.specs.Lines.{roomOf}
+use Rattle.scene_lines.proofs.Rooms.{longest}
 use Rattle.scene_records.specs.declared.Read.{Read}
 use Rattle.scene_records.specs.declared.Read.the-variants as Read
 use Rattle.scene_records.specs.Records.{readAt, sizeOf}
@@ -23,9 +23,11 @@ use Rattle.scene_store.specs.declared.Area.{Area}
 use Rattle.scene_notes.specs.declared.Judged.{Judged}
 use Rattle.scene_notes.specs.declared.Judged.the-variants.{Fine, Bad}
 use Rattle.scene_notes.specs.Noted.{Scene, areaAt, judgeArea, judgeNamed}
-use Rattle.scene_store.specs.Store.{nobody, triangleCount, placeIn, pairIn}
+use Rattle.scene_store.specs.Store.{nobody, triangleCount, pairIn}
+use Rattle.scene_far.specs.declared.Said.{Said}
+use Rattle.scene_far.specs.declared.Said.the-variants as Said
 use Rattle.scene_steps.specs.Steps.{refused, refusedAt, wrote, ofPositions, refusal, passedBy, withArea, areaTold, areaOut, areaMade, areaBy, areaStep, met, Good}
-use Rattle.scene_steps.specs.Steps.{placeTold, placeMet, placeBy, placeStep, pairTold, pairMet, pairBy, pairStep, stepBy, step}
+use Rattle.scene_steps.specs.Steps.{placeTold, saidOf, placeMet, placeBy, placeStep, pairTold, pairMet, pairBy, pairStep, stepBy, step}
 use Rattle.scene_store.proofs.Counts.{built-count}
 use Rattle.scene_notes.proofs.Tables.{allowed}
 
@@ -77,10 +79,9 @@ module _ {s : List ℕ} {w : Scene} (g : Good s w) where
   }
 
   module _ {l : Line} {v : Scene} where
-    place-on : (t : Told) (number : ℕ) → w .at + 32 ≤ length s → placeTold s w number t ≡ wrote l v → Onward s l w v
-    unfolding roomOf
-    place-on (Ask.refused k) number h e = absurd (no-line k _ e)
-    place-on (Ask.answer n) number h e = passed-on 32 (omega arith) (let q : Line.Place number n ≡ l = cc in rw (← q) (omega arith)) h (cc)
+    place-on : (t : Said) → w .at + 32 ≤ length s → placeTold s w t ≡ wrote l v → Onward s l w v
+    place-on (Said.Refused k) h e = absurd (no-line k _ e)
+    place-on (Said.Line line) h e = passed-on 32 (omega arith) (omega (arith, longest l)) h (cc)
 
     pair-on : (t : Told) (number other : ℕ) → w .at + 10 ≤ length s → pairTold w number other t ≡ wrote l v → Onward s l w v
     unfolding roomOf
@@ -117,10 +118,10 @@ module _ {s : List ℕ} {w : Scene} (g : Good s w) where
     judged-on number count h (Bad f field) q e = absurd (let z : _≡_ {A = ℕ} 0 1 = cc in omega arith)
     judged-on number count h Fine q e = area-on number count q h (areaOut s w count .answer) refl e
 
-    place-judged : (number : ℕ) → w .at + 32 ≤ length s → (j : Judged) → placeBy j s w number ≡ wrote l v → Onward s l w v
+    place-judged : (far : Bool) (number : ℕ) → w .at + 32 ≤ length s → (j : Judged) → placeBy j far s w number ≡ wrote l v → Onward s l w v
     unfolding placeMet
-    place-judged number h (Bad f field) e = absurd (let z : _≡_ {A = ℕ} 0 1 = cc in omega arith)
-    place-judged number h Fine e = place-on (placeIn (met w number) (w .positions) (w .normals) (w .classes) (vecOf s (w .at + 8))) number h e
+    place-judged far number h (Bad f field) e = absurd (let z : _≡_ {A = ℕ} 0 1 = cc in omega arith)
+    place-judged far number h Fine e = place-on (saidOf far s w number) h e
 
     pair-judged : (number other : ℕ) → w .at + 10 ≤ length s → (j : Judged) → pairBy j w number other ≡ wrote l v → Onward s l w v
     unfolding pairMet
@@ -132,8 +133,9 @@ module _ {s : List ℕ} {w : Scene} (g : Good s w) where
     by-read Read.End h e = absurd (let z : _≡_ {A = ℕ} 0 1 = cc in omega arith)
     by-read (Read.Bad f field) h e = absurd (let z : _≡_ {A = ℕ} 0 1 = cc in omega arith)
     by-read (Read.Area number count) h e = judged-on number count h (judgeArea (w .areas) (w .given) (w .at) number count) refl e
-    by-read (Read.Place number) h e = place-judged number h (judgeNamed (w .areas) (w .at) (number ∷ [])) e
+    by-read (Read.Place number) h e = place-judged false number h (judgeNamed (w .areas) (w .at) (number ∷ [])) e
     by-read (Read.Pair number other) h e = pair-judged number other h (judgeNamed (w .areas) (w .at) (number ∷ other ∷ [])) e
+    by-read (Read.Far number) h e = place-judged true number h (judgeNamed (w .areas) (w .at) (number ∷ [])) e
 
     pub onward : step s w ≡ wrote l v → Onward s l w v
     unfolding step

@@ -29,7 +29,10 @@ use Rattle.scene_steps.specs.declared.Report.the-variants as Report
 use Rattle.scene_steps.specs.declared.Stepped.{Stepped}
 use Rattle.scene_notes.specs.Noted.{Scene, indexOf, areasOf, view, passedNotes, Addable, areaAt, addedNotes, judgeArea, isPast, judgeNumbers, judgeNamed}
 use Rattle.scene_notes.proofs.Tables.{met-count, Allowed, allowed, all-met, one-judged, two-judged}
-use Rattle.scene_store.specs.Store.{nobody, after, builtAt, triangleCount, placeIn, pairIn, Lies, Room}
+use Rattle.scene_store.specs.Store.{nobody, after, builtAt, triangleCount, pairIn, Lies, Room}
+use Rattle.scene_far.specs.declared.Said.{Said}
+use Rattle.scene_far.specs.declared.Said.the-variants as Said
+use Rattle.scene_far.specs.Far.{saidIn}
 use Rattle.scene_steps.specs.Steps.{refused, refusedAt, ofPositions, refusal, refusedIndex, passedBy, withArea, areaMade, areaStep, placeTold, placeMet, placeStep, pairTold, pairMet, pairStep, Good}
 use Rattle.scene_steps.specs.Steps.{refusalReport, placeReport, pairReport, Sized, Ready}
 use Rattle.scene_steps.specs.Steps.{StepOutcome, outcomeWith, notesOf, outcomeOf, areaMadeOutcome, areaOutcome, placeMetOutcome, placeOutcome, pairMetOutcome, pairOutcome}
@@ -70,15 +73,15 @@ module _ {s : List ℕ} {c : Notes} {size : ℕ} {ps ns : List Float} {cs : List
   passed-notes n = rw (met-count c (r .kept), take-append-drop (c .met) (c .areas))
 
   -- ---- a place
-  place-same : (t : Told) (number : ℕ) → outcomeWith (placeReport t number (refusedIndex s (c .at) 1)) (passedNotes c 32) ps ns cs ≡ outcomeOf (placeTold s here number t) c (passedNotes c 32) ps ns cs
-  place-same (Ask.refused k) number = refusal-same c (passedNotes c 32) ps ns cs k (refusedIndex s (c .at) 1)
-  place-same (Ask.answer n) number = ap (λ (x : Notes). outcomeWith (Report.Line (Line.Place number n)) x ps ns cs) (passed-notes 32)
+  place-same : (t : Said) → outcomeWith (placeReport t (refusedIndex s (c .at) 1)) (passedNotes c 32) ps ns cs ≡ outcomeOf (placeTold s here t) c (passedNotes c 32) ps ns cs
+  place-same (Said.Refused k) = refusal-same c (passedNotes c 32) ps ns cs k (refusedIndex s (c .at) 1)
+  place-same (Said.Line line) = ap (λ (x : Notes). outcomeWith (Report.Line line) x ps ns cs) (passed-notes 32)
 
-  pub place-told-met : (number : ℕ) {i : ℕ} {a : Area} {p : Vec3} {t : Told} {o : Report} {n : Notes} → i ≡ indexOf (areasOf c) number
-      → a ≡ getD (areasOf c) i nobody → p ≡ vecOf s (c .at + 8) → t ≡ placeIn a ps ns cs p → o ≡ placeReport t number (refusedIndex s (c .at) 1) → n ≡ passedNotes c 32
-      → outcomeWith o n ps ns cs ≡ placeMetOutcome s c number ps ns cs
+  pub place-told-met : (far : Bool) (number : ℕ) {i : ℕ} {a : Area} {p : Vec3} {t : Said} {o : Report} {n : Notes} → i ≡ indexOf (areasOf c) number
+      → a ≡ getD (areasOf c) i nobody → p ≡ vecOf s (c .at + 8) → t ≡ saidIn far number a ps ns cs p → o ≡ placeReport t (refusedIndex s (c .at) 1) → n ≡ passedNotes c 32
+      → outcomeWith o n ps ns cs ≡ placeMetOutcome far s c number ps ns cs
   unfolding placeMet
-  place-told-met number {t = t} e ea ep et eo en = rw (en, eo, ← e, ← ea, ← ep, ← et) (place-same t number)
+  place-told-met far number {t = t} e ea ep et eo en = rw (en, eo, ← e, ← ea, ← ep, ← et) (place-same t)
 
   -- ---- a pair
   pair-same : (t : Told) (number other : ℕ) → outcomeWith (pairReport t number other) (passedNotes c 10) ps ns cs ≡ outcomeOf (pairTold here number other t) c (passedNotes c 10) ps ns cs
@@ -99,16 +102,16 @@ module _ {s : List ℕ} {c : Notes} {size : ℕ} {ps ns : List Float} {cs : List
     one : j ≡ judgeNamed (areasOf c) (c .at) (number ∷ [])
     one = h ∙ one-judged (areasOf c) (c .at) number (met-count c (r .kept)) e
 
-    pub place-bad : {f : Fault} {field : ℕ} → j ≡ Bad f field → outcomeWith (Report.Bad f field) c ps ns cs ≡ placeOutcome s c number ps ns cs
+    pub place-bad : (far : Bool) {f : Fault} {field : ℕ} → j ≡ Bad f field → outcomeWith (Report.Bad f field) c ps ns cs ≡ placeOutcome far s c number ps ns cs
     unfolding placeStep
-    place-bad q = rw (← one, q)
+    place-bad far q = rw (← one, q)
 
     pub place-below : j ≡ Fine → i < c .met
     place-below q = met-below (number ∷ []) (sym q ∙ one) 0 (omega arith) e
 
-    pub place-fine : {o : StepOutcome} → j ≡ Fine → o ≡ placeMetOutcome s c number ps ns cs → o ≡ placeOutcome s c number ps ns cs
+    pub place-fine : (far : Bool) {o : StepOutcome} → j ≡ Fine → o ≡ placeMetOutcome far s c number ps ns cs → o ≡ placeOutcome far s c number ps ns cs
     unfolding placeStep
-    place-fine q g = rw (← one, q) g
+    place-fine far q g = rw (← one, q) g
 
   module _ (number other : ℕ) {i k : ℕ} {j : Judged} (e : i ≡ indexOf (areasOf c) number) (f : k ≡ indexOf (areasOf c) other)
       (h : j ≡ judgeNumbers (isPast (c .met) (i ∷ k ∷ [])) (c .at) (number ∷ other ∷ [])) where

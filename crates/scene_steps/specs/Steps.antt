@@ -1,7 +1,7 @@
--- What one record comes to (SCOPE 28, 29, 46, 47). Definitions only.
+-- What one record comes to (SCOPE 28, 29, 46, 47, 52). Definitions only.
 use Prim.Native.Nat.{ℕ, _+_, _*_, _≤_, _<_}
 use mathlib.Core.Path.{_≡_}
-use mathlib.Core.Bool.{_||_, Bool, cond}
+use mathlib.Core.Bool.{_||_, Bool, true, false, cond}
 use mathlib.Core.List.{List, [], _∷_, _++_}
 use lib.ListN.{length, drop, getD}
 use lib.Dec.{eqb}
@@ -26,7 +26,10 @@ use Rattle.scene_steps.specs.declared.Stepped.{Stepped}
 use Rattle.scene_steps.specs.declared.Report.{Report}
 use Rattle.scene_steps.specs.declared.Report.the-variants as Report
 use Rattle.scene_notes.specs.Noted.{Scene, indexOf, Kept, view, passedNotes, areaAt, judgeArea, judgeNamed}
-use Rattle.scene_store.specs.Store.{nobody, builtAt, triangleCount, placeIn, pairIn}
+use Rattle.scene_store.specs.Store.{nobody, builtAt, triangleCount, pairIn}
+use Rattle.scene_far.specs.declared.Said.{Said}
+use Rattle.scene_far.specs.declared.Said.the-variants as Said
+use Rattle.scene_far.specs.Far.{saidIn}
 
 -- what a record comes to: there is none; its fault and that field's offset; a call's own refusal, of a list of positions with the index of the first that is
 -- refused; or its line and the scene after it
@@ -37,7 +40,7 @@ pub data Step : Type 0 where
   refusedAt : ℕ → ℕ → Step
   wrote : Line → Scene → Step
 
--- SCOPE 46: 3 and 4 are of one position in a list, which stands behind the area number of the record at an offset: `count` positions, of a place one
+-- SCOPE 46: 3 and 4 are of one position in a list, which stands behind the area number of the record at an offset: `count` positions, of a place or a far one
 abbrev pub ofPositions : ℕ → Bool
 ofPositions k = eqb k 3 || eqb k 4
 
@@ -98,20 +101,24 @@ areaStep s w number count = areaBy (judgeArea (w .areas) (w .given) (w .at) numb
 abbrev pub met : Scene → ℕ → Area
 met w number = getD (w .areas) (indexOf (w .areas) number) nobody
 
--- ---- kind 2, of an area that was met
-abbrev pub placeTold : List ℕ → Scene → ℕ → Told → Step
-placeTold s w number (Ask.refused k) = refusal k (refusedIndex s (w .at) 1)
-placeTold s w number (Ask.answer n) = wrote (Line.Place number n) (passedBy 32 w)
+-- ---- kinds 2 and 4, of an area that was met: where the place lies, or how far it is from the border
+abbrev pub placeTold : List ℕ → Scene → Said → Step
+placeTold s w (Said.Refused k) = refusal k (refusedIndex s (w .at) 1)
+placeTold s w (Said.Line line) = wrote line (passedBy 32 w)
 
-unfoldable pub placeMet : List ℕ → Scene → ℕ → Step
-placeMet s w number = placeTold s w number (placeIn (met w number) (w .positions) (w .normals) (w .classes) (vecOf s (w .at + 8)))
+abbrev pub saidOf : Bool → List ℕ → Scene → ℕ → Said
+saidOf far s w number = saidIn far number (met w number) (w .positions) (w .normals) (w .classes) (vecOf s (w .at + 8))
 
-abbrev pub placeBy : Judged → List ℕ → Scene → ℕ → Step
-placeBy (Bad f field) s w number = faulty f field
-placeBy Fine s w number = placeMet s w number
+unfoldable pub placeMet : Bool → List ℕ → Scene → ℕ → Step
+placeMet far s w number = placeTold s w (saidOf far s w number)
 
-unfoldable pub placeStep : List ℕ → Scene → ℕ → Step
-placeStep s w number = placeBy (judgeNamed (w .areas) (w .at) (number ∷ [])) s w number
+abbrev pub placeBy : Judged → Bool → List ℕ → Scene → ℕ → Step
+placeBy (Bad f field) far s w number = faulty f field
+placeBy Fine far s w number = placeMet far s w number
+
+-- SCOPE 52: the refusals of kind 4 are those of kind 2, at the same fields and in the same order
+unfoldable pub placeStep : Bool → List ℕ → Scene → ℕ → Step
+placeStep far s w number = placeBy (judgeNamed (w .areas) (w .at) (number ∷ [])) far s w number
 
 -- ---- kind 3, of two areas that were met
 abbrev pub pairTold : Scene → ℕ → ℕ → Told → Step
@@ -133,8 +140,9 @@ abbrev pub stepBy : Read → List ℕ → Scene → Step
 stepBy Read.End s w = ended
 stepBy (Read.Bad f field) s w = faulty f field
 stepBy (Read.Area number count) s w = areaStep s w number count
-stepBy (Read.Place number) s w = placeStep s w number
+stepBy (Read.Place number) s w = placeStep false s w number
 stepBy (Read.Pair number other) s w = pairStep w number other
+stepBy (Read.Far number) s w = placeStep true s w number
 
 unfoldable pub step : List ℕ → Scene → Step
 step s w = stepBy (readAt s (w .at)) s w
@@ -190,18 +198,18 @@ outcomeOf (refused k) c at-refusal ps ns cs = outcomeWith (Report.Refused k) at-
 outcomeOf (refusedAt k index) c at-refusal ps ns cs = outcomeWith (Report.RefusedAt k index) at-refusal ps ns cs
 outcomeOf (wrote line next) c at-refusal ps ns cs = outcomeWith (Report.Line line) (notesOf (c .areas) next) (next .positions) (next .normals) (next .classes)
 
--- of each kind. An area that is refused is not noted; a place or a pair that is refused counts as read. No record comes after a refusal to read these notes
+-- of each kind. An area that is refused is not noted; a place, a pair or a far that is refused counts as read. No record comes after a refusal to read these notes
 abbrev pub areaMadeOutcome : List ℕ → Notes → ℕ → ℕ → List Float → List Float → List ℕ → StepOutcome
 areaMadeOutcome s c number count ps ns cs = outcomeOf (areaMade s (view c ps ns cs) number count) c c ps ns cs
 
 abbrev pub areaOutcome : List ℕ → Notes → ℕ → ℕ → List Float → List Float → List ℕ → StepOutcome
 areaOutcome s c number count ps ns cs = outcomeOf (areaStep s (view c ps ns cs) number count) c c ps ns cs
 
-abbrev pub placeMetOutcome : List ℕ → Notes → ℕ → List Float → List Float → List ℕ → StepOutcome
-placeMetOutcome s c number ps ns cs = outcomeOf (placeMet s (view c ps ns cs) number) c (passedNotes c 32) ps ns cs
+abbrev pub placeMetOutcome : Bool → List ℕ → Notes → ℕ → List Float → List Float → List ℕ → StepOutcome
+placeMetOutcome far s c number ps ns cs = outcomeOf (placeMet far s (view c ps ns cs) number) c (passedNotes c 32) ps ns cs
 
-abbrev pub placeOutcome : List ℕ → Notes → ℕ → List Float → List Float → List ℕ → StepOutcome
-placeOutcome s c number ps ns cs = outcomeOf (placeStep s (view c ps ns cs) number) c (passedNotes c 32) ps ns cs
+abbrev pub placeOutcome : Bool → List ℕ → Notes → ℕ → List Float → List Float → List ℕ → StepOutcome
+placeOutcome far s c number ps ns cs = outcomeOf (placeStep far s (view c ps ns cs) number) c (passedNotes c 32) ps ns cs
 
 abbrev pub pairMetOutcome : Notes → ℕ → ℕ → List Float → List Float → List ℕ → StepOutcome
 pairMetOutcome c number other ps ns cs = outcomeOf (pairMet (view c ps ns cs) number other) c (passedNotes c 10) ps ns cs
@@ -216,6 +224,7 @@ refusedNotes (Read.Bad f field) c = c
 refusedNotes (Read.Area number count) c = c
 refusedNotes (Read.Place number) c = passedNotes c 32
 refusedNotes (Read.Pair number other) c = passedNotes c 10
+refusedNotes (Read.Far number) c = passedNotes c 32
 
 unfoldable pub stepOutcome : List ℕ → Notes → List Float → List Float → List ℕ → StepOutcome
 stepOutcome s c ps ns cs = outcomeOf (step s (view c ps ns cs)) c (refusedNotes (readAt s (c .at)) c) ps ns cs
@@ -224,9 +233,9 @@ stepOutcome s c ps ns cs = outcomeOf (step s (view c ps ns cs)) c (refusedNotes 
 unfoldable pub refusalReport : ℕ → ℕ → Report
 refusalReport k index = cond (ofPositions k) (Report.RefusedAt k index) (Report.Refused k)
 
-abbrev pub placeReport : Told → ℕ → ℕ → Report
-placeReport (Ask.refused k) number index = refusalReport k index
-placeReport (Ask.answer n) number index = Report.Line (Line.Place number n)
+abbrev pub placeReport : Said → ℕ → Report
+placeReport (Said.Refused k) index = refusalReport k index
+placeReport (Said.Line line) index = Report.Line line
 
 abbrev pub pairReport : Told → ℕ → ℕ → Report
 pairReport (Ask.refused k) number other = Report.Refused k

@@ -2,15 +2,14 @@
 ghost use mathlib.Core.Path.{_≡_};
 ghost use Prim.Native.Nat.{_+_, _*_, _≤_, _<_};
 ghost use lib.ListN.{length};
-ghost use Rattle.loop_ask.specs.Answers.{toldPlaced};
 ghost use Rattle.loop_relate.specs.Relations.{toldRelated};
 ghost use Rattle.scene_store.specs.Store as St;
 ghost use Rattle.scene_notes.specs.Noted as N;
 ghost use Rattle.scene_steps.specs.Steps as S;
-use loop_ask::Placed;
 use loop_build::Built;
 use loop_header::Header;
 use loop_relate::Related;
+use scene_far::Said;
 use scene_lines::Line;
 use scene_notes::Judged;
 use scene_notes::Notes;
@@ -125,23 +124,22 @@ fn area_step(
     }
 }
 
-// The line of a place, by its answer's number. The place is a list of one.
-fn place_told(s: &[u8], at: usize, p: Placed, number: usize) -> Report
+// What was said of a place, which is a list of one.
+fn place_told(s: &[u8], at: usize, said: Said) -> Report
     requires { ⌜ (length (now s) ≤ 65536) × (at + 32 ≤ length (now s)) ⌝ }
-    ensures { λ r. ⌜ r ≡ S.placeReport (toldPlaced p) number (S.refusedIndex (now (s .entry)) at 1) ⌝ }
+    ensures { λ r. ⌜ r ≡ S.placeReport said (S.refusedIndex (now (s .entry)) at 1) ⌝ }
 {
-    match p {
-        Placed::Refused(k) => refusal(s, at, 1, k),
-        Placed::Outside => Report::Line(Line::Place(number, 0)),
-        Placed::Inside => Report::Line(Line::Place(number, 1)),
-        Placed::Mute => Report::Line(Line::Place(number, 2)),
+    match said {
+        Said::Refused(k) => refusal(s, at, 1, k),
+        Said::Line(line) => Report::Line(line),
     }
 }
 
-// A place of an area that was met, by its index among them.
+// A place of an area that was met, by its index among them: where it lies is asked, or how `far` it is.
 fn place_met(
     s: &[u8],
     c: Notes,
+    far: bool,
     number: usize,
     i: usize,
     positions: &[f64],
@@ -150,13 +148,13 @@ fn place_met(
 ) -> Stepped
     requires { ⌜ S.Ready (now s) c 32 (now positions) (now normals) (now classes) × (i ≡ N.indexOf (N.areasOf c) number) × (i < c .met) ⌝ }
     ensures { λ r. ⌜ record { stepped = r; positions = now (positions .entry); normals = now (normals .entry); classes = now (classes .entry) }
-        ≡ S.placeMetOutcome (now (s .entry)) c number (now (positions .entry)) (now (normals .entry)) (now (classes .entry)) ⌝ }
+        ≡ S.placeMetOutcome far (now (s .entry)) c number (now (positions .entry)) (now (normals .entry)) (now (classes .entry)) ⌝ }
 {
     let a = scene_notes::area_of(c, i);
     let p = wire::vec_at(s, c.at + 8);
-    let placed = scene_store::place_in(a, positions, normals, classes, p);
+    let said = scene_far::said_in(far, number, a, positions, normals, classes, p);
     Stepped {
-        report: place_told(s, c.at, placed, number),
+        report: place_told(s, c.at, said),
         next: scene_notes::passed(c, 32),
     }
 }
@@ -164,6 +162,7 @@ fn place_met(
 fn place_step(
     s: &[u8],
     c: Notes,
+    far: bool,
     number: usize,
     positions: &[f64],
     normals: &[f64],
@@ -171,7 +170,7 @@ fn place_step(
 ) -> Stepped
     requires { ⌜ S.Ready (now s) c 32 (now positions) (now normals) (now classes) ⌝ }
     ensures { λ r. ⌜ record { stepped = r; positions = now (positions .entry); normals = now (normals .entry); classes = now (classes .entry) }
-        ≡ S.placeOutcome (now (s .entry)) c number (now (positions .entry)) (now (normals .entry)) (now (classes .entry)) ⌝ }
+        ≡ S.placeOutcome far (now (s .entry)) c number (now (positions .entry)) (now (normals .entry)) (now (classes .entry)) ⌝ }
 {
     let i = scene_notes::index_of(c, number);
     let numbers = [number];
@@ -181,7 +180,7 @@ fn place_step(
             report: Report::Bad(f, field),
             next: c,
         },
-        Judged::Fine => place_met(s, c, number, i, positions, normals, classes),
+        Judged::Fine => place_met(s, c, far, number, i, positions, normals, classes),
     }
 }
 
@@ -273,7 +272,8 @@ pub fn step(
             next: c,
         },
         Read::Area(number, count) => { area_step(s, c, number, count, positions, normals, classes) }
-        Read::Place(number) => place_step(s, c, number, positions, normals, classes),
+        Read::Place(number) => place_step(s, c, false, number, positions, normals, classes),
         Read::Pair(number, other) => pair_step(s, c, number, other, positions, normals, classes),
+        Read::Far(number) => place_step(s, c, true, number, positions, normals, classes),
     }
 }

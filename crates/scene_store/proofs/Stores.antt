@@ -18,17 +18,17 @@ use Rattle.scene_store.specs.declared.Area.{Area}
 use Rattle.scene_store.specs.Store.{after, builtAt, blank, counted, triangleCount, placeIn, pairIn, Room}
 
 -- the size of a part, from its ends
-three : (s n : ℕ) → 3 * (s + n) - 3 * s ≡ 3 * n
+pub three : (s n : ℕ) → 3 * (s + n) - 3 * s ≡ 3 * n
 three s n = omega arith
 
-one : (s n : ℕ) → s + n - s ≡ n
+pub one : (s n : ℕ) → s + n - s ≡ n
 one s n = omega arith
 
 -- the parts as they are lent
-abbrev threes : Area → List Float → List Float
+abbrev pub threes : Area → List Float → List Float
 threes a l = take (3 * (a .start + a .header .count) - 3 * a .start) (drop (3 * a .start) l)
 
-abbrev ones : Area → List ℕ → List ℕ
+abbrev pub ones : Area → List ℕ → List ℕ
 ones a l = take (a .start + a .header .count - a .start) (drop (a .start) l)
 
 module _ (ps ns : List Float) (cs : List ℕ) {t : Told} where

@@ -1,11 +1,12 @@
--- SCOPE 30: the words and numbers of a scene's lines, as bytes. Definitions only.
-use Prim.Native.Nat.{ℕ, _+_, _/_, _%_}
+-- SCOPE 30, 52: the words and numbers of a scene's lines, as bytes. Definitions only.
+use Prim.Native.Nat.{ℕ, _+_, _-_, _*_, _/_, _%_, _^_}
 use mathlib.Core.Path.{_≡_}
 use mathlib.Core.Bool.{Bool, cond}
 use mathlib.Core.List.{List, [], _∷_, _++_}
 use lib.ListN.{length}
 use lib.Seq.{sets}
 use lib.Dec.{ltb, eqb}
+use Rattle.laws.specs.Loop.{flat}
 use Rattle.loop_header.specs.declared.State.{State}
 use Rattle.loop_header.specs.declared.State.the-variants.{Empty, Full, Ring}
 use Rattle.scene_words.specs.Bytes.{bytes}
@@ -17,6 +18,18 @@ digit n power = cond (ltb n power) [] ((48 + n / power % 10) ∷ [])
 -- a number in decimal: no number of a scene has more than five digits
 unfoldable pub decimal : ℕ → List ℕ
 decimal n = digit n 10000 ++ digit n 1000 ++ digit n 100 ++ digit n 10 ++ ((48 + n % 10) ∷ [])
+
+-- SCOPE 52: a hexadecimal digit's byte: 48 is that of 0, 65 that of A
+abbrev pub hexByte : ℕ → ℕ
+hexByte digit = cond (ltb digit 10) (48 + digit) (55 + digit)
+
+-- the digit at an index from the left is four bits, of which 60 are below the first
+abbrev pub hexAt : ℕ → ℕ → List ℕ
+hexAt bits i = hexByte (bits / 2 ^ (60 - 4 * i) % 16) ∷ []
+
+-- 64 bits as sixteen digits, the highest first
+unfoldable pub hex : ℕ → List ℕ
+hex bits = flat (hexAt bits) 16 0
 
 -- the state of an area, whose ring may be mute
 abbrev pub ringWord : Bool → List ℕ

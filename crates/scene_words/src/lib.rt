@@ -55,6 +55,30 @@ pub fn put_number(out: &mut [u8], at: usize, n: usize) -> usize
     put_byte(out, d, (48 + n % 10) as u8)
 }
 
+// The byte of a hexadecimal digit, in upper case.
+fn hex_byte(digit: u64) -> u8
+    requires { ⌜ digit < 16 ⌝ }
+    ensures { λ r. ⌜ r ≡ W.hexByte digit ⌝ }
+{
+    if digit < 10 {
+        (48 + digit) as u8
+    } else {
+        (55 + digit) as u8
+    }
+}
+
+// The bits of a float as sixteen hexadecimal digits, the highest first.
+pub fn put_bits(out: &mut [u8], at: usize, bits: u64) -> usize
+    requires { ⌜ at + 16 ≤ length (now out) ⌝ }
+    ensures { λ r. ⌜ W.Wrote (now (out .entry)) at (W.hex bits) (now (out .exit)) r ⌝ }
+    ensures { λ r. ⌜ r ≤ at + 16 ⌝ }
+{
+    for i in 0..16 {
+        out[at + i] = hex_byte((bits >> (60 - 4 * i)) % 16);
+    }
+    at + 16
+}
+
 fn put_ring(out: &mut [u8], at: usize, mute: bool) -> usize
     requires { ⌜ at + 6 ≤ length (now out) ⌝ }
     ensures { λ r. ⌜ W.Wrote (now (out .entry)) at (W.ringWord mute) (now (out .exit)) r ⌝ }

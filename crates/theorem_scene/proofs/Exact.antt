@@ -8,10 +8,11 @@ use native.Mathlib.Omega.{arith}
 use lib.ListN.{length, getD}
 use lib.Dec.{ltb, eqb}
 use borrow.Author.Tests.{lt-ltb, ltb-true}
-use Rattle.wire.specs.Wire.{vecOf}
 use Rattle.loop_build.specs.Build as B
 use Rattle.loop_ask.specs.Answers as Ask
-use Rattle.scene_store.specs.Store.{placeIn, pairIn}
+use Rattle.scene_store.specs.Store.{pairIn}
+use Rattle.scene_far.specs.declared.Said.{Said}
+use Rattle.scene_far.specs.declared.Said.the-variants as Said
 use Rattle.scene_records.specs.declared.Fault.{Fault}
 use Rattle.scene_records.specs.declared.Fault.the-variants.{CutShort, UnknownKind, WrongLength, NoNumber, Repeated, NotMet, ManyAreas, ManyPositions}
 use Rattle.scene_records.specs.declared.Read.{Read}
@@ -20,7 +21,7 @@ use Rattle.scene_notes.specs.declared.Judged.{Judged}
 use Rattle.scene_notes.specs.declared.Judged.the-variants.{Bad}
 use Rattle.scene_notes.specs.Noted.{Scene, judgeArea, judgeNamed}
 use Rattle.scene_steps.specs.Steps.{Step, ended, faulty, refused, refusedAt, wrote, ofPositions, refusal, areaTold, areaOut, areaMade, areaBy, areaStep, met}
-use Rattle.scene_steps.specs.Steps.{placeTold, placeMet, placeBy, placeStep, pairTold, pairMet, pairBy, pairStep, stepBy, step}
+use Rattle.scene_steps.specs.Steps.{placeTold, saidOf, placeMet, placeBy, placeStep, pairTold, pairMet, pairBy, pairStep, stepBy, step}
 use Rattle.scene_run.specs.Run.{tooLong, Told, ends, toldBy, toldFrom, toldOf, blankFloats, blankCodes, sceneTold}
 use Rattle.theorem_scene.specs.Why.{IsArea, numberOf, Asks, Numbers, own, named, GivenWhen, TooLong, Exact}
 use Rattle.theorem_scene.specs.Why.{Why20, Why21, Why22, Why23, Why24, Why25, Why26, Why27}
@@ -64,9 +65,9 @@ module _ (s : List ℕ) (w : Scene) where
   area-told number count o (B.refused k) = no-fault k _
   area-told number count o (B.loop h) = tt
 
-  place-told : (number : ℕ) (t : Ask.Told) → StepWhy (placeTold s w number t)
-  place-told number (Ask.refused k) = no-fault k _
-  place-told number (Ask.answer n) = tt
+  place-told : (t : Said) → StepWhy (placeTold s w t)
+  place-told (Said.Refused k) = no-fault k _
+  place-told (Said.Line line) = tt
 
   pair-told : (number other : ℕ) (t : Ask.Told) → StepWhy (pairTold w number other t)
   pair-told number other (Ask.refused k) = tt
@@ -81,11 +82,11 @@ module _ (s : List ℕ) (w : Scene) where
   area-judged count f _ (J.many-positions n u h g) = Why.why count (record { formed = f; numbered = n; unmet = u }) h g
   area-judged count f _ J.fine = area-told (numberOf s (w .at)) count (areaOut s w count) (areaOut s w count .answer)
 
-  place-judged : (number : ℕ) → Asks s (w .at) (number ∷ []) → (j : Judged) → J.NumbersWhy (w .areas) (w .at) (number ∷ []) j → StepWhy (placeBy j s w number)
+  place-judged : (far : Bool) (number : ℕ) → Asks s (w .at) (number ∷ []) → (j : Judged) → J.NumbersWhy (w .areas) (w .at) (number ∷ []) j → StepWhy (placeBy j far s w number)
   unfolding placeMet
-  place-judged number a _ (J.a-zero i h e n) = Why.why (number ∷ []) (named a) i h e n
-  place-judged number a _ (J.not-met n i h u m) = Why.why (number ∷ []) a n i h u m
-  place-judged number a _ J.all-met = place-told number (placeIn (met w number) (w .positions) (w .normals) (w .classes) (vecOf s (w .at + 8)))
+  place-judged far number a _ (J.a-zero i h e n) = Why.why (number ∷ []) (named a) i h e n
+  place-judged far number a _ (J.not-met n i h u m) = Why.why (number ∷ []) a n i h u m
+  place-judged far number a _ J.all-met = place-told (saidOf far s w number)
 
   pair-judged : (number other : ℕ) → Asks s (w .at) (number ∷ other ∷ []) → (j : Judged) → J.NumbersWhy (w .areas) (w .at) (number ∷ other ∷ []) j → StepWhy (pairBy j w number other)
   unfolding pairMet
@@ -101,10 +102,12 @@ module _ (s : List ℕ) (w : Scene) where
   by-read _ (R.wrong h k f) = Why.why h k f
   by-read _ (R.an-area count f) = area-judged count f (judgeArea (w .areas) (w .given) (w .at) (numberOf s (w .at)) count) (J.area-why (w .areas) (w .given) (w .at) (numberOf s (w .at)) count)
   by-read _ (R.a-place f) =
-      place-judged (numberOf s (w .at)) (Why.place f) (judgeNamed (w .areas) (w .at) (numberOf s (w .at) ∷ [])) (J.numbers-why (w .areas) (w .at) (numberOf s (w .at) ∷ []))
+      place-judged false (numberOf s (w .at)) (Why.place (Why.place f)) (judgeNamed (w .areas) (w .at) (numberOf s (w .at) ∷ [])) (J.numbers-why (w .areas) (w .at) (numberOf s (w .at) ∷ []))
   by-read _ (R.a-pair f) =
       let numbers = numberOf s (w .at) ∷ u16Of s (w .at + 8) ∷ [] in
       pair-judged (numberOf s (w .at)) (u16Of s (w .at + 8)) (Why.pair f) (judgeNamed (w .areas) (w .at) numbers) (J.numbers-why (w .areas) (w .at) numbers)
+  by-read _ (R.a-far f) =
+      place-judged true (numberOf s (w .at)) (Why.place (Why.far f)) (judgeNamed (w .areas) (w .at) (numberOf s (w .at) ∷ [])) (J.numbers-why (w .areas) (w .at) (numberOf s (w .at) ∷ []))
 
   step-why : StepWhy (step s w)
   unfolding step
@@ -121,7 +124,8 @@ module _ (s : List ℕ) (w : Scene) where
 
   asks-faulty : (numbers : List ℕ) → Asks s (w .at) numbers → {f : Fault} {field : ℕ} → judgeNamed (w .areas) (w .at) numbers ≡ Bad f field → step s w ≡ faulty f field
   unfolding placeStep pairStep
-  asks-faulty _ (Why.place h) e = read-step (R.place-read s (w .at) h) ∙ rw e
+  asks-faulty _ (Why.place (Why.place h)) e = read-step (R.place-read s (w .at) h) ∙ rw e
+  asks-faulty _ (Why.place (Why.far h)) e = read-step (R.far-read s (w .at) h) ∙ rw e
   asks-faulty _ (Why.pair h) e = read-step (R.pair-read s (w .at) h) ∙ rw e
 
   of-own : (count : ℕ) → IsArea s (w .at) count → (i : ℕ) → i < 1 → getD (numberOf s (w .at) ∷ []) i 0 ≡ 0 → step s w ≡ faulty NoNumber (numberField (w .at) i)

@@ -2,6 +2,7 @@
 -- index that they come with. Assumes nothing.
 use Prim.Native.Nat.{ℕ, zero, suc, _+_, _-_, _*_, _/_, _≤_, _<_}
 use mathlib.Core.Path.{_≡_, refl, sym, ap, subst, _∙_}
+use mathlib.Core.Bool.{Bool, true, false}
 use mathlib.Core.List.{List, [], _∷_}
 use mathlib.Core.Logic.{_⊎_, inl, inr}
 use native.Mathlib.Nat.{not-suc-le-zero}
@@ -29,19 +30,24 @@ use Rattle.scene_records.specs.declared.Read.{Read}
 use Rattle.scene_records.specs.Records.{u16Of, floatsAt, readAt}
 use Rattle.scene_store.specs.Store.{corners, codes, builtAt, placeIn, pairIn}
 use Rattle.scene_store.proofs.Counts.{floats-count}
+use Rattle.scene_far.specs.declared.Said.{Said}
+use Rattle.scene_far.specs.declared.Said.the-variants as Said
+use Rattle.scene_far.proofs.Refusals.{said-refused}
 use Rattle.scene_notes.specs.declared.Judged.{Judged}
 use Rattle.scene_notes.specs.declared.Judged.the-variants.{Fine, Bad}
 use Rattle.scene_notes.specs.Noted.{Scene, indexOf, judgeArea, judgeNamed}
 use Rattle.scene_notes.proofs.Tables.{allowed, all-met}
-use Rattle.scene_steps.specs.Steps.{Step, ended, faulty, refused, refusedAt, wrote, refusal, refusedIndex, areaTold, areaOut, areaMade, areaBy, areaStep, met}
-use Rattle.scene_steps.specs.Steps.{placeTold, placeMet, placeBy, placeStep, pairTold, pairMet, pairBy, pairStep, stepBy, step}
+use Rattle.scene_steps.specs.Steps.{Step, ended, faulty, refused, refusedAt, wrote, refusal, refusedIndex, passedBy, areaTold, areaOut, areaMade, areaBy, areaStep, met}
+use Rattle.scene_steps.specs.Steps.{placeTold, saidOf, placeMet, placeBy, placeStep, pairTold, pairMet, pairBy, pairStep, stepBy, step}
 use Rattle.scene_run.proofs.Floats.{position-read}
 use Rattle.theorem_built.specs.Built.{Loop, AsBuilt, Related, related, each-in-other}
 use Rattle.theorem_built.proofs.Theorem as Built
-use Rattle.theorem_scene.specs.Why.{IsArea, Formed, numberOf}
-use Rattle.theorem_scene.specs.Endings.{Indexed}
+use Rattle.theorem_scene.specs.Why.{IsArea, IsPlace, numberOf}
+use Rattle.theorem_scene.specs.Why as Why
+use Rattle.theorem_scene.specs.Endings.{Indexed, PlaceStep, no-number, not-met, answered}
 use Rattle.theorem_scene.specs.Endings as Endings
 use Rattle.theorem_scene.proofs.Readings as R
+use Rattle.theorem_scene.proofs.Judging as J
 use Rattle.theorem_scene.proofs.Stores.{loopIn, Kept}
 
 -- what a position is refused for is 3 or 4
@@ -152,36 +158,68 @@ module _ (s : List ℕ) (w : Scene) where
     met-built : (number : ℕ) → indexOf (w .areas) number < length (w .areas) → AsBuilt (loopIn (met w number) (w .positions) (w .normals) (w .classes))
     met-built number h = kept .stored .built (indexOf (w .areas) number) h
 
-    -- ---- a place, which is a list of one
-    module _ (formed : Formed s (w .at) 2 26) where
-      abbrev p : Vec3
-      p = vecOf s (w .at + 8)
+    -- ---- a place or a far, which is a list of one
+    abbrev p : Vec3
+    p = vecOf s (w .at + 8)
 
-      one : posAt (floatsAt s (w .at + 8) 1) 0 ≡ cleared p
-      one =
-          let o : w .at + 8 + 24 * 0 ≡ w .at + 8 = omega arith in
-          position-read s (w .at + 8) 1 0 (omega arith) ∙ ap (vecOf s) o ∙ sym (position-clear s (w .at + 8))
+    one : posAt (floatsAt s (w .at + 8) 1) 0 ≡ cleared p
+    one =
+        let o : w .at + 8 + 24 * 0 ≡ w .at + 8 = omega arith in
+        position-read s (w .at + 8) 1 0 (omega arith) ∙ ap (vecOf s) o ∙ sym (position-clear s (w .at + 8))
 
-      alone : (k : ℕ) → PositionWhy (cleared p) k → 0 < k → PositionsWhy (floatsAt s (w .at + 8) 1) 1 k
-      alone zero y h = absurd (not-suc-le-zero h)
-      alone (suc k) y h = at 0 (omega arith) (subst (λ (v : Vec3). PositionWhy v (suc k)) (sym one) y) (λ j g. absurd (not-suc-le-zero g))
+    alone : (k : ℕ) → PositionWhy (cleared p) k → 0 < k → PositionsWhy (floatsAt s (w .at + 8) 1) 1 k
+    alone zero y h = absurd (not-suc-le-zero h)
+    alone (suc k) y h = at 0 (omega arith) (subst (λ (v : Vec3). PositionWhy v (suc k)) (sym one) y) (λ j g. absurd (not-suc-le-zero g))
 
-      place-why : (a : Loop) → AsBuilt a → (k : ℕ) → Then (LoopWhy (a .header) (a .positions) (a .normals) (a .classes)) (PositionWhy (cleared p)) k → 0 < k
-          → OwnWhy (refusal k (refusedIndex s (w .at) 1))
-      place-why a b _ (stops {k} y) h =
-          let z : suc k ≡ 0 = sym (Loops.exact (a .header) (a .positions) (a .classes) .whole-loop (a .normals) .why-given (suc k) y) ∙ Built.built .loop-fault a b in
-          absurd (omega arith)
-      place-why a b k (goes-on y z) h =
-          let listed = alone k z h in
-          indexed-own k _ (position-number (cleared p) k z h) (record { count = 1; listed = Endings.place formed; stands = standing _ 1 k listed h })
+    -- 3 or 4, of the one position
+    abbrev OfOne : ℕ → Type 0
+    OfOne k = ((k ≡ 3) ⊎ (k ≡ 4)) × Stands (floatsAt s (w .at + 8) 1) 1 k (refusedIndex s (w .at) 1)
 
-      place-told : (number : ℕ) → indexOf (w .areas) number < length (w .areas) → (t : Ask.Told) → t ≡ placeIn (met w number) (w .positions) (w .normals) (w .classes) p → OwnWhy (placeTold s w number t)
-      unfolding placeIn
-      place-told number m (Ask.refused k) e =
-          let a = met w number in
-          let y = Questions.exact (a .header) (corners a (w .positions)) (corners a (w .normals)) (codes a (w .classes)) .place p .given-why k (sym e) in
-          place-why (loopIn a (w .positions) (w .normals) (w .classes)) (met-built number m) k (y .1) (y .0)
-      place-told number m (Ask.answer n) e = tt
+    place-why : (a : Loop) → AsBuilt a → (k : ℕ) → Then (LoopWhy (a .header) (a .positions) (a .normals) (a .classes)) (PositionWhy (cleared p)) k → 0 < k → OfOne k
+    place-why a b _ (stops {k} y) h =
+        let z : suc k ≡ 0 = sym (Loops.exact (a .header) (a .positions) (a .classes) .whole-loop (a .normals) .why-given (suc k) y) ∙ Built.built .loop-fault a b in
+        absurd (omega arith)
+    place-why a b k (goes-on y z) h = (position-number (cleared p) k z h, standing _ 1 k (alone k z h) h)
+
+    place-own : (number : ℕ) → indexOf (w .areas) number < length (w .areas) → (k : ℕ) → placeIn (met w number) (w .positions) (w .normals) (w .classes) p ≡ Ask.refused k → OfOne k
+    unfolding placeIn
+    place-own number m k e =
+        let a = met w number in
+        let y = Questions.exact (a .header) (corners a (w .positions)) (corners a (w .normals)) (codes a (w .classes)) .place p .given-why k e in
+        place-why (loopIn a (w .positions) (w .normals) (w .classes)) (met-built number m) k (y .1) (y .0)
+
+    -- a far is refused as a place is
+    said-own : (far : Bool) (number : ℕ) → indexOf (w .areas) number < length (w .areas) → (k : ℕ) → Said.Refused k ≡ saidOf far s w number → OfOne k
+    said-own far number m k e = place-own number m k (said-refused far number (met w number) (w .positions) (w .normals) (w .classes) p k (sym e))
+
+    place-told : IsPlace s (w .at) → (far : Bool) (number : ℕ) → indexOf (w .areas) number < length (w .areas) → (t : Said) → t ≡ saidOf far s w number → OwnWhy (placeTold s w t)
+    place-told f far number m (Said.Refused k) e =
+        let y = said-own far number m k e in
+        indexed-own k _ (y .0) (record { count = 1; listed = Endings.place f; stands = y .1 })
+    place-told f far number m (Said.Line line) e = tt
+
+    -- so it comes to no refusal but these two, and its index is 0
+    at-zero : (k index : ℕ) → (k ≡ 3) ⊎ (k ≡ 4) → index < 1 → PlaceStep (refusal k index)
+    unfolding refusal
+    at-zero k index (inl e) h = let z : index ≡ 0 = omega arith in rw (e, z) Endings.not-finite
+    at-zero k index (inr e) h = let z : index ≡ 0 = omega arith in rw (e, z) Endings.off-range
+
+    place-stepped : (far : Bool) (number : ℕ) → indexOf (w .areas) number < length (w .areas) → (t : Said) → t ≡ saidOf far s w number → PlaceStep (placeTold s w t)
+    place-stepped far number m (Said.Refused k) e =
+        let y = said-own far number m k e in
+        at-zero k _ (y .0) (y .1 .below)
+    place-stepped far number m (Said.Line line) e = answered line (passedBy 32 w)
+
+    place-judged : (far : Bool) (number : ℕ) (j : Judged) → j ≡ judgeNamed (w .areas) (w .at) (number ∷ []) → J.NumbersWhy (w .areas) (w .at) (number ∷ []) j → PlaceStep (placeBy j far s w number)
+    unfolding placeMet
+    place-judged far number _ e (J.a-zero i h q n) = no-number _
+    place-judged far number _ e (J.not-met n i h u m) = not-met _
+    place-judged far number _ e J.all-met = place-stepped far number (all-met (w .areas) (w .at) (number ∷ []) e 0 (omega arith)) _ refl
+
+    pub place-step : IsPlace s (w .at) → PlaceStep (step s w)
+    unfolding step placeStep
+    place-step (Why.place f) = rw (R.place-read s (w .at) f) (place-judged false (numberOf s (w .at)) _ refl (J.numbers-why (w .areas) (w .at) (numberOf s (w .at) ∷ [])))
+    place-step (Why.far f) = rw (R.far-read s (w .at) f) (place-judged true (numberOf s (w .at)) _ refl (J.numbers-why (w .areas) (w .at) (numberOf s (w .at) ∷ [])))
 
     -- ---- a pair
     pair-told : (number other : ℕ) → indexOf (w .areas) number < length (w .areas) → indexOf (w .areas) other < length (w .areas)
@@ -199,10 +237,10 @@ module _ (s : List ℕ) (w : Scene) where
     area-by count f number (Bad fault field) e = tt
     area-by count f number Fine e = area-told count f (allowed (w .areas) (w .given) (w .at) number count e .few) number (areaOut s w count .answer) refl
 
-    place-by : Formed s (w .at) 2 26 → (number : ℕ) (j : Judged) → j ≡ judgeNamed (w .areas) (w .at) (number ∷ []) → OwnWhy (placeBy j s w number)
+    place-by : IsPlace s (w .at) → (far : Bool) (number : ℕ) (j : Judged) → j ≡ judgeNamed (w .areas) (w .at) (number ∷ []) → OwnWhy (placeBy j far s w number)
     unfolding placeMet
-    place-by f number (Bad fault field) e = tt
-    place-by f number Fine e = place-told f number (all-met (w .areas) (w .at) (number ∷ []) e 0 (omega arith)) _ refl
+    place-by f far number (Bad fault field) e = tt
+    place-by f far number Fine e = place-told f far number (all-met (w .areas) (w .at) (number ∷ []) e 0 (omega arith)) _ refl
 
     pair-by : (number other : ℕ) (j : Judged) → j ≡ judgeNamed (w .areas) (w .at) (number ∷ other ∷ []) → OwnWhy (pairBy j w number other)
     unfolding pairMet
@@ -218,10 +256,11 @@ module _ (s : List ℕ) (w : Scene) where
     by-read _ (R.unknown h k) = tt
     by-read _ (R.wrong h k f) = tt
     by-read _ (R.an-area count f) = area-by count f (numberOf s (w .at)) (judgeArea (w .areas) (w .given) (w .at) (numberOf s (w .at)) count) refl
-    by-read _ (R.a-place f) = place-by f (numberOf s (w .at)) (judgeNamed (w .areas) (w .at) (numberOf s (w .at) ∷ [])) refl
+    by-read _ (R.a-place f) = place-by (Why.place f) false (numberOf s (w .at)) (judgeNamed (w .areas) (w .at) (numberOf s (w .at) ∷ [])) refl
     by-read _ (R.a-pair f) =
         let numbers = numberOf s (w .at) ∷ u16Of s (w .at + 8) ∷ [] in
         pair-by (numberOf s (w .at)) (u16Of s (w .at + 8)) (judgeNamed (w .areas) (w .at) numbers) refl
+    by-read _ (R.a-far f) = place-by (Why.far f) true (numberOf s (w .at)) (judgeNamed (w .areas) (w .at) (numberOf s (w .at) ∷ [])) refl
 
     pub own : OwnWhy (step s w)
     unfolding step

@@ -28,6 +28,7 @@ module _ (s : List ℕ) (at : ℕ) where
     an-area : (count : ℕ) → IsArea s at count → ReadWhy (Read.Area (numberOf s at) count)
     a-place : Formed s at 2 26 → ReadWhy (Read.Place (numberOf s at))
     a-pair : Formed s at 3 4 → ReadWhy (Read.Pair (numberOf s at) (u16Of s (at + 8)))
+    a-far : Formed s at 4 26 → ReadWhy (Read.Far (numberOf s at))
 
   module _ (whole : Whole s at) where
     -- a kind that is known, and no length that it asks for
@@ -38,6 +39,7 @@ module _ (s : List ℕ) (at : ℕ) where
         go _ _ e h (Why.area count) = h (omega arith)
         go _ _ e h Why.place = omega arith
         go _ _ e h Why.pair = omega arith
+        go _ _ e h Why.far = omega arith
 
     wrong-place : kindOf s at ≡ 2 → (lengthOf s at ≡ 26 → ⊥) → Fits (kindOf s at) (lengthOf s at) → ⊥
     wrong-place e h f = go (kindOf s at) (lengthOf s at) e h f
@@ -46,6 +48,7 @@ module _ (s : List ℕ) (at : ℕ) where
         go _ _ e h (Why.area count) = omega arith
         go _ _ e h Why.place = h refl
         go _ _ e h Why.pair = omega arith
+        go _ _ e h Why.far = omega arith
 
     wrong-pair : kindOf s at ≡ 3 → (lengthOf s at ≡ 4 → ⊥) → Fits (kindOf s at) (lengthOf s at) → ⊥
     wrong-pair e h f = go (kindOf s at) (lengthOf s at) e h f
@@ -54,6 +57,16 @@ module _ (s : List ℕ) (at : ℕ) where
         go _ _ e h (Why.area count) = omega arith
         go _ _ e h Why.place = omega arith
         go _ _ e h Why.pair = h refl
+        go _ _ e h Why.far = omega arith
+
+    wrong-far : kindOf s at ≡ 4 → (lengthOf s at ≡ 26 → ⊥) → Fits (kindOf s at) (lengthOf s at) → ⊥
+    wrong-far e h f = go (kindOf s at) (lengthOf s at) e h f
+      where
+        go : (kind len : ℕ) → kind ≡ 4 → (len ≡ 26 → ⊥) → Fits kind len → ⊥
+        go _ _ e h (Why.area count) = omega arith
+        go _ _ e h Why.place = omega arith
+        go _ _ e h Why.pair = omega arith
+        go _ _ e h Why.far = h refl
 
     area-why : kindOf s at ≡ 1 → (b : Bool) → eqb (lengthOf s at % 24) 2 ≡ b
         → ReadWhy (cond b (Read.Area (numberOf s at) (lengthOf s at / 24)) (Read.Bad WrongLength (lengthField at)))
@@ -68,21 +81,28 @@ module _ (s : List ℕ) (at : ℕ) where
     pair-why e true t = a-pair (record { whole = whole; of-kind = e; of-size = eqb-true _ _ t })
     pair-why e false t = wrong whole (subst Known (sym e) Why.pair) (wrong-pair e (eqb-false _ _ t))
 
-    not-known : (kindOf s at ≡ 1 → ⊥) → (kindOf s at ≡ 2 → ⊥) → (kindOf s at ≡ 3 → ⊥) → Known (kindOf s at) → ⊥
-    not-known a p q k = go (kindOf s at) a p q k
-      where
-        go : (kind : ℕ) → (kind ≡ 1 → ⊥) → (kind ≡ 2 → ⊥) → (kind ≡ 3 → ⊥) → Known kind → ⊥
-        go _ a p q Why.area = a refl
-        go _ a p q Why.place = p refl
-        go _ a p q Why.pair = q refl
+    far-why : kindOf s at ≡ 4 → (b : Bool) → eqb (lengthOf s at) 26 ≡ b → ReadWhy (cond b (Read.Far (numberOf s at)) (Read.Bad WrongLength (lengthField at)))
+    far-why e true t = a-far (record { whole = whole; of-kind = e; of-size = eqb-true _ _ t })
+    far-why e false t = wrong whole (subst Known (sym e) Why.far) (wrong-far e (eqb-false _ _ t))
 
-    kind-why : (a b c : Bool) → eqb (kindOf s at) 1 ≡ a → eqb (kindOf s at) 2 ≡ b → eqb (kindOf s at) 3 ≡ c
-        → ReadWhy (cond a (areaAt s at (lengthOf s at)) (cond b (placeAt s at (lengthOf s at)) (cond c (pairAt s at (lengthOf s at)) (Read.Bad UnknownKind (kindField at)))))
+    not-known : (kindOf s at ≡ 1 → ⊥) → (kindOf s at ≡ 2 → ⊥) → (kindOf s at ≡ 3 → ⊥) → (kindOf s at ≡ 4 → ⊥) → Known (kindOf s at) → ⊥
+    not-known a p q r k = go (kindOf s at) a p q r k
+      where
+        go : (kind : ℕ) → (kind ≡ 1 → ⊥) → (kind ≡ 2 → ⊥) → (kind ≡ 3 → ⊥) → (kind ≡ 4 → ⊥) → Known kind → ⊥
+        go _ a p q r Why.area = a refl
+        go _ a p q r Why.place = p refl
+        go _ a p q r Why.pair = q refl
+        go _ a p q r Why.far = r refl
+
+    kind-why : (a b c d : Bool) → eqb (kindOf s at) 1 ≡ a → eqb (kindOf s at) 2 ≡ b → eqb (kindOf s at) 3 ≡ c → eqb (kindOf s at) 4 ≡ d
+        → ReadWhy (cond a (areaAt s at (lengthOf s at)) (cond b (placeAt false s at (lengthOf s at))
+        (cond c (pairAt s at (lengthOf s at)) (cond d (placeAt true s at (lengthOf s at)) (Read.Bad UnknownKind (kindField at))))))
     unfolding areaAt placeAt pairAt
-    kind-why true b c p q r = area-why (eqb-true _ _ p) (eqb (lengthOf s at % 24) 2) refl
-    kind-why false true c p q r = place-why (eqb-true _ _ q) (eqb (lengthOf s at) 26) refl
-    kind-why false false true p q r = pair-why (eqb-true _ _ r) (eqb (lengthOf s at) 4) refl
-    kind-why false false false p q r = unknown whole (not-known (eqb-false _ _ p) (eqb-false _ _ q) (eqb-false _ _ r))
+    kind-why true b c d p q r t = area-why (eqb-true _ _ p) (eqb (lengthOf s at % 24) 2) refl
+    kind-why false true c d p q r t = place-why (eqb-true _ _ q) (eqb (lengthOf s at) 26) refl
+    kind-why false false true d p q r t = pair-why (eqb-true _ _ r) (eqb (lengthOf s at) 4) refl
+    kind-why false false false true p q r t = far-why (eqb-true _ _ t) (eqb (lengthOf s at) 26) refl
+    kind-why false false false false p q r t = unknown whole (not-known (eqb-false _ _ p) (eqb-false _ _ q) (eqb-false _ _ r) (eqb-false _ _ t))
 
   read-by : (a b c : Bool) → leb (length s) at ≡ a → ltb (length s) (at + 6) ≡ b → ltb (length s) (at + 6 + lengthOf s at) ≡ c
       → ReadWhy (cond a Read.End (cond b (Read.Bad CutShort (length s)) (cond c (Read.Bad CutShort (length s)) (kindAt s at (lengthOf s at)))))
@@ -90,7 +110,7 @@ module _ (s : List ℕ) (at : ℕ) where
   read-by true b c p q r = ended (leb-true _ _ p)
   read-by false true c p q r = short (in-head (leb-false _ _ p) (ltb-true _ _ q))
   read-by false false true p q r = short (in-body (ltb-false _ _ q) (ltb-true _ _ r))
-  read-by false false false p q r = kind-why (ltb-false _ _ r) (eqb (kindOf s at) 1) (eqb (kindOf s at) 2) (eqb (kindOf s at) 3) refl refl refl
+  read-by false false false p q r = kind-why (ltb-false _ _ r) (eqb (kindOf s at) 1) (eqb (kindOf s at) 2) (eqb (kindOf s at) 3) (eqb (kindOf s at) 4) refl refl refl refl
 
   pub read-why : ReadWhy (readAt s at)
   unfolding readAt
@@ -117,14 +137,15 @@ module _ (s : List ℕ) (at : ℕ) where
       let a = ne-eqb (kindOf s at) 1 (λ e. k (subst Known (sym e) Why.area)) in
       let p = ne-eqb (kindOf s at) 2 (λ e. k (subst Known (sym e) Why.place)) in
       let q = ne-eqb (kindOf s at) 3 (λ e. k (subst Known (sym e) Why.pair)) in
-      whole-read h ∙ rw (a, p, q)
+      let r = ne-eqb (kindOf s at) 4 (λ e. k (subst Known (sym e) Why.far)) in
+      whole-read h ∙ rw (a, p, q, r)
 
   -- a kind's own reading
   kind-area : kindOf s at ≡ 1 → kindAt s at (lengthOf s at) ≡ areaAt s at (lengthOf s at)
   unfolding kindAt
   kind-area e = rw (eq-eqb (kindOf s at) 1 e)
 
-  kind-place : kindOf s at ≡ 2 → kindAt s at (lengthOf s at) ≡ placeAt s at (lengthOf s at)
+  kind-place : kindOf s at ≡ 2 → kindAt s at (lengthOf s at) ≡ placeAt false s at (lengthOf s at)
   unfolding kindAt
   kind-place e = rw (ne-eqb (kindOf s at) 1 (λ q. let z : _≡_ {A = ℕ} 1 2 = sym q ∙ e in omega arith), eq-eqb (kindOf s at) 2 e)
 
@@ -137,6 +158,16 @@ module _ (s : List ℕ) (at : ℕ) where
         eq-eqb (kindOf s at) 3 e,
       )
 
+  kind-far : kindOf s at ≡ 4 → kindAt s at (lengthOf s at) ≡ placeAt true s at (lengthOf s at)
+  unfolding kindAt
+  kind-far e =
+      rw (
+        ne-eqb (kindOf s at) 1 (λ q. let z : _≡_ {A = ℕ} 1 4 = sym q ∙ e in omega arith),
+        ne-eqb (kindOf s at) 2 (λ q. let z : _≡_ {A = ℕ} 2 4 = sym q ∙ e in omega arith),
+        ne-eqb (kindOf s at) 3 (λ q. let z : _≡_ {A = ℕ} 3 4 = sym q ∙ e in omega arith),
+        eq-eqb (kindOf s at) 4 e,
+      )
+
   module _ (h : Whole s at) (f : Fits (kindOf s at) (lengthOf s at) → ⊥) where
     area-misfit : kindOf s at ≡ 1 → areaAt s at (lengthOf s at) ≡ Read.Bad WrongLength (lengthField at)
     unfolding areaAt
@@ -145,9 +176,10 @@ module _ (s : List ℕ) (at : ℕ) where
         fits-area : lengthOf s at % 24 ≡ 2 → Fits (kindOf s at) (lengthOf s at)
         fits-area q = subst (λ (k : ℕ). Fits k (lengthOf s at)) (sym e) (subst (Fits 1) (sym (area-size (lengthOf s at) q)) (Why.area (lengthOf s at / 24)))
 
-    place-misfit : kindOf s at ≡ 2 → placeAt s at (lengthOf s at) ≡ Read.Bad WrongLength (lengthField at)
+    -- by the kind of the two
+    place-misfit : (kind : ℕ) (far : Bool) → Fits kind 26 → kindOf s at ≡ kind → placeAt far s at (lengthOf s at) ≡ Read.Bad WrongLength (lengthField at)
     unfolding placeAt
-    place-misfit e = rw (ne-eqb (lengthOf s at) 26 (λ q. f (subst (λ (k : ℕ). Fits k (lengthOf s at)) (sym e) (subst (Fits 2) (sym q) Why.place))))
+    place-misfit kind far y e = rw (ne-eqb (lengthOf s at) 26 (λ q. f (subst (λ (k : ℕ). Fits k (lengthOf s at)) (sym e) (subst (Fits kind) (sym q) y))))
 
     pair-misfit : kindOf s at ≡ 3 → pairAt s at (lengthOf s at) ≡ Read.Bad WrongLength (lengthField at)
     unfolding pairAt
@@ -155,8 +187,9 @@ module _ (s : List ℕ) (at : ℕ) where
 
     wrong-by : (kind : ℕ) → kindOf s at ≡ kind → Known kind → kindAt s at (lengthOf s at) ≡ Read.Bad WrongLength (lengthField at)
     wrong-by _ e Why.area = kind-area e ∙ area-misfit e
-    wrong-by _ e Why.place = kind-place e ∙ place-misfit e
+    wrong-by _ e Why.place = kind-place e ∙ place-misfit 2 false Why.place e
     wrong-by _ e Why.pair = kind-pair e ∙ pair-misfit e
+    wrong-by _ e Why.far = kind-far e ∙ place-misfit 4 true Why.far e
 
     pub wrong-read : Known (kindOf s at) → readAt s at ≡ Read.Bad WrongLength (lengthField at)
     wrong-read k = whole-read h ∙ wrong-by (kindOf s at) refl k
@@ -176,3 +209,7 @@ module _ (s : List ℕ) (at : ℕ) where
   pub pair-read : Formed s at 3 4 → readAt s at ≡ Read.Pair (numberOf s at) (u16Of s (at + 8))
   unfolding pairAt
   pair-read f = whole-read (f .whole) ∙ kind-pair (f .of-kind) ∙ rw (eq-eqb _ _ (f .of-size))
+
+  pub far-read : Formed s at 4 26 → readAt s at ≡ Read.Far (numberOf s at)
+  unfolding placeAt
+  far-read f = whole-read (f .whole) ∙ kind-far (f .of-kind) ∙ rw (eq-eqb _ _ (f .of-size))

@@ -11,7 +11,6 @@ use lib.Seq.{getD-append-add, length-take-le, drop-append-seam, take-append-le, 
 use lib.Dec.{ltb}
 use lib.Ieee.{Float}
 use borrow.Author.Tests.{ltb-false}
-use Rattle.wire.specs.Wire.{vecOf}
 use Rattle.vec3.proofs.Arrays.{size}
 use Rattle.ring_corners.specs.Corners.{reversal, cornerAt, normalAt, ringOf, normalsOf, classesOf, allBoth}
 use Rattle.loop_header.specs.declared.Header.{Header}
@@ -25,12 +24,14 @@ use Rattle.scene_records.specs.declared.Read.{Read}
 use Rattle.scene_records.specs.declared.Read.the-variants as Read
 use Rattle.scene_records.specs.Records.{readAt, floatsAt}
 use Rattle.scene_store.specs.declared.Area.{Area}
-use Rattle.scene_store.specs.Store.{nobody, corners, codes, after, builtAt, placeIn, pairIn}
+use Rattle.scene_store.specs.Store.{nobody, corners, codes, after, builtAt, pairIn}
+use Rattle.scene_far.specs.declared.Said.{Said}
+use Rattle.scene_far.specs.declared.Said.the-variants as Said
 use Rattle.scene_notes.specs.declared.Judged.{Judged}
 use Rattle.scene_notes.specs.declared.Judged.the-variants.{Fine, Bad}
 use Rattle.scene_notes.specs.Noted.{Scene, areaAt, judgeArea, judgeNamed}
 use Rattle.scene_steps.specs.Steps.{wrote, passedBy, withArea, areaTold, areaOut, areaMade, areaBy, areaStep, met, Good}
-use Rattle.scene_steps.specs.Steps.{placeTold, placeMet, placeBy, placeStep, pairTold, pairMet, pairBy, pairStep, stepBy, step}
+use Rattle.scene_steps.specs.Steps.{placeTold, saidOf, placeMet, placeBy, placeStep, pairTold, pairMet, pairBy, pairStep, stepBy, step}
 use Rattle.scene_steps.proofs.Goods.{no-line, onward}
 use Rattle.scene_run.specs.Run.{blankFloats, blankCodes, starting}
 use Rattle.scene_run.proofs.Floats.{read-doubles}
@@ -110,9 +111,9 @@ module _ {s : List ℕ} {w : Scene} {line : Line} {v : Scene} where
       let d : withArea w (areaAt (w .used) number h) count (areaOut s w count) ≡ v = cc in
       subst (Went s w) d (added number count h q)
 
-  place-went : (number : ℕ) (t : Ask.Told) → placeTold s w number t ≡ wrote line v → Went s w v
-  place-went number (Ask.refused k) e = absurd (no-line k _ e)
-  place-went number (Ask.answer n) e = let d : passedBy 32 w ≡ v = cc in subst (Went s w) d (passed 32)
+  place-went : (t : Said) → placeTold s w t ≡ wrote line v → Went s w v
+  place-went (Said.Refused k) e = absurd (no-line k _ e)
+  place-went (Said.Line l) e = let d : passedBy 32 w ≡ v = cc in subst (Went s w) d (passed 32)
 
   pair-went : (number other : ℕ) (t : Ask.Told) → pairTold w number other t ≡ wrote line v → Went s w v
   pair-went number other (Ask.refused k) e = absurd (let z : _≡_ {A = ℕ} 0 1 = cc in omega arith)
@@ -123,10 +124,10 @@ module _ {s : List ℕ} {w : Scene} {line : Line} {v : Scene} where
   area-by number count (Bad f field) e = absurd (let z : _≡_ {A = ℕ} 0 1 = cc in omega arith)
   area-by number count Fine e = area-went number count (areaOut s w count .answer) refl e
 
-  place-by : (number : ℕ) (j : Judged) → placeBy j s w number ≡ wrote line v → Went s w v
+  place-by : (far : Bool) (number : ℕ) (j : Judged) → placeBy j far s w number ≡ wrote line v → Went s w v
   unfolding placeMet
-  place-by number (Bad f field) e = absurd (let z : _≡_ {A = ℕ} 0 1 = cc in omega arith)
-  place-by number Fine e = place-went number (placeIn (met w number) (w .positions) (w .normals) (w .classes) (vecOf s (w .at + 8))) e
+  place-by far number (Bad f field) e = absurd (let z : _≡_ {A = ℕ} 0 1 = cc in omega arith)
+  place-by far number Fine e = place-went (saidOf far s w number) e
 
   pair-by : (number other : ℕ) (j : Judged) → pairBy j w number other ≡ wrote line v → Went s w v
   unfolding pairMet
@@ -138,8 +139,9 @@ module _ {s : List ℕ} {w : Scene} {line : Line} {v : Scene} where
   by-read Read.End e = absurd (let z : _≡_ {A = ℕ} 0 1 = cc in omega arith)
   by-read (Read.Bad f field) e = absurd (let z : _≡_ {A = ℕ} 0 1 = cc in omega arith)
   by-read (Read.Area number count) e = area-by number count (judgeArea (w .areas) (w .given) (w .at) number count) e
-  by-read (Read.Place number) e = place-by number (judgeNamed (w .areas) (w .at) (number ∷ [])) e
+  by-read (Read.Place number) e = place-by false number (judgeNamed (w .areas) (w .at) (number ∷ [])) e
   by-read (Read.Pair number other) e = pair-by number other (judgeNamed (w .areas) (w .at) (number ∷ other ∷ [])) e
+  by-read (Read.Far number) e = place-by true number (judgeNamed (w .areas) (w .at) (number ∷ [])) e
 
   went : step s w ≡ wrote line v → Went s w v
   unfolding step

@@ -8,7 +8,7 @@ use lib.Dec.{leb}
 use Rattle.scene_words.specs.Bytes.{bytes}
 use Rattle.scene_words.specs.Words.{decimal}
 use Rattle.scene_lines.specs.declared.Line.{Line}
-use Rattle.scene_lines.specs.declared.Line.the-variants.{Area, Place, Pair, End, Refused, RefusedAt}
+use Rattle.scene_lines.specs.declared.Line.the-variants.{Area, Place, Pair, Far, End, Refused, RefusedAt}
 use Rattle.scene_lines.specs.Lines.{endLine, lineText}
 use Rattle.scene_run.specs.Texts.{isLast}
 use Rattle.scene_run.specs.Run.{Ending, whole, tooLong, faulty, refused, refusedAt, sceneTold, textOf, sceneText}
@@ -36,6 +36,7 @@ abbrev pub lineWithTen : Line → List ℕ
 lineWithTen (Area number h triangles) = []
 lineWithTen (Place number answer) = []
 lineWithTen (Pair first second relation) = []
+lineWithTen (Far number bits) = []
 lineWithTen (End records) = endLine records
 lineWithTen (Refused k offset field) = tenLine (tenFor k) offset
 lineWithTen (RefusedAt k offset field index) = tenLine (tenFor k) offset

@@ -1,4 +1,4 @@
--- SCOPE 46, 47: each of the refusals 20 to 28 is given exactly when, at its field, in words over the input's bytes and what was met. Proved in proofs/Exact.antt.
+-- SCOPE 46, 47, 52: each of the refusals 20 to 28 is given exactly when, at its field, in words over the input's bytes and what was met. Proved in proofs/Exact.antt.
 -- Definitions only.
 use Prim.Native.Nat.{ℕ, _+_, _*_, _≤_, _<_}
 use mathlib.Core.Path.{_≡_}
@@ -28,17 +28,19 @@ pub data Short (s : List ℕ) (at : ℕ) : Type 0 where
 abbrev pub Whole : List ℕ → ℕ → Type 0
 Whole s at = at + 6 + lengthOf s at ≤ length s
 
--- the three kinds
+-- the four kinds
 pub data Known : ℕ → Type 0 where
   area : Known 1
   place : Known 2
   pair : Known 3
+  far : Known 4
 
--- the length that a kind asks for: an area has its number and 24 bytes a position, a place its area's number and a position, a pair two numbers
+-- the length that a kind asks for: an area has its number and 24 bytes a position, a place and a far an area's number and a position, a pair two numbers
 pub data Fits : ℕ → ℕ → Type 0 where
   area : (count : ℕ) → Fits 1 (2 + 24 * count)
   place : Fits 2 26
   pair : Fits 3 4
+  far : Fits 4 26
 
 -- a whole record of a kind, with the length that it asks for
 pub record Formed (s : List ℕ) (at kind size : ℕ) : Type 0 where
@@ -49,13 +51,18 @@ pub record Formed (s : List ℕ) (at kind size : ℕ) : Type 0 where
 abbrev pub IsArea : List ℕ → ℕ → ℕ → Type 0
 IsArea s at count = Formed s at 1 (2 + 24 * count)
 
+-- a place or a far: the number of an area, and one position
+pub data IsPlace (s : List ℕ) (at : ℕ) : Type 0 where
+  place : Formed s at 2 26 → IsPlace s at
+  far : Formed s at 4 26 → IsPlace s at
+
 -- an area's number stands where the body starts
 abbrev pub numberOf : List ℕ → ℕ → ℕ
 numberOf s at = u16Of s (bodyField at)
 
--- the numbers that a place or a pair names
+-- the numbers that a place, a pair or a far names
 pub data Asks (s : List ℕ) (at : ℕ) : List ℕ → Type 0 where
-  place : Formed s at 2 26 → Asks s at (numberOf s at ∷ [])
+  place : IsPlace s at → Asks s at (numberOf s at ∷ [])
   pair : Formed s at 3 4 → Asks s at (numberOf s at ∷ u16Of s (at + 8) ∷ [])
 
 -- the area numbers of a record: an area's own, or those that it names
@@ -106,7 +113,7 @@ pub data Why23 (s : List ℕ) (w : Scene) : ℕ → Type 0 where
 pub data Why24 (s : List ℕ) (w : Scene) : ℕ → Type 0 where
   why : (count : ℕ) → IsArea s (w .at) count → (numberOf s (w .at) ≡ 0 → ⊥) → Met (w .areas) (numberOf s (w .at)) → Why24 s w (bodyField (w .at))
 
--- 25: a place or a pair that names a number which no earlier area record had, at the first such number
+-- 25: a place, a pair or a far that names a number which no earlier area record had, at the first such number
 pub data Why25 (s : List ℕ) (w : Scene) : ℕ → Type 0 where
   why : (numbers : List ℕ) → Asks s (w .at) numbers → NonZero numbers → (i : ℕ) → i < length numbers → Unmet (w .areas) (getD numbers i 0)
       → ((j : ℕ) → j < i → Met (w .areas) (getD numbers j 0)) → Why25 s w (numberField (w .at) i)

@@ -11,15 +11,17 @@ use Rattle.judge.specs.Judge.{vectorFault, faultOf, firstRefused}
 use Rattle.wire.specs.Wire.{u64Of, floatsAt}
 use Rattle.loop_build.specs.Build.{listFault, buildOutcome}
 use Rattle.loop_build.specs.Build as Build
-use Rattle.scene_words.specs.Words.{decimal}
-use Rattle.scene_lines.specs.Lines.{refusedLine, refusedAtLine}
+use Rattle.scene_words.specs.Bytes.{bytes}
+use Rattle.scene_words.specs.Words.{decimal, hex}
+use Rattle.scene_lines.specs.declared.Line.the-variants.{Far}
+use Rattle.scene_lines.specs.Lines.{refusedLine, refusedAtLine, farLine, lineText}
 use Rattle.scene_records.specs.declared.Fault.the-variants.{Repeated, ManyPositions}
-use Rattle.scene_records.specs.Records.{faultNumber, areaAt, pairAt, kindAt, readAt}
+use Rattle.scene_records.specs.Records.{faultNumber, areaAt, placeAt, pairAt, kindAt, readAt}
 use Rattle.scene_store.specs.Store.{builtAt}
 use Rattle.scene_notes.specs.Noted.{indexOf, judgeArea, firstZero, judgeNumbers}
-use Rattle.scene_steps.specs.Steps.{Step, ended, faulty, refused, refusedAt, wrote, refusal, areaMade, areaStep, pairStep, step}
+use Rattle.scene_steps.specs.Steps.{Step, ended, faulty, refused, refusedAt, wrote, refusal, areaMade, areaStep, placeStep, pairStep, step}
 use Rattle.scene_run.specs.Run.{toldFrom, sceneTold, textOf, sceneText}
-use Rattle.theorem_wrongs.specs.Scenes.{pairOf, emptyArea, areaOfOne, xBytes, nanBytes, areaOfTwo, shortOfKind9, sixteen, allGiven, OfScenes}
+use Rattle.theorem_wrongs.specs.Scenes.{pairOf, emptyArea, areaOfOne, xBytes, nanBytes, areaOfTwo, farOfX, farOf24, shortOfKind9, sixteen, allGiven, OfScenes}
 
 -- ---- two texts with another byte at an index are not the same, nor two faults with another number or field
 differ : (i a b : ℕ) (l m : List ℕ) → getD l i 0 ≡ a → getD m i 0 ≡ b → (a ≡ b → ⊥) → l ≡ m → ⊥
@@ -39,13 +41,13 @@ fieldOf (refused k) = 0
 fieldOf (refusedAt k index) = 0
 fieldOf (wrote line next) = 0
 
--- ---- what a scene is computed with: a record as it is read, the numbers that a pair names, an area as it is judged, and a list that is refused
+-- ---- what a scene is computed with: a record as it is read, the numbers that one names, an area as it is judged, and a list that is refused
 unfoldable of-reading : ℕ
 unfolding sceneText sceneTold toldFrom textOf step readAt kindAt
 of-reading = 0
 
 unfoldable of-naming : ℕ
-unfolding of-reading pairAt pairStep judgeNumbers firstZero firstAt indexOf
+unfolding of-reading placeAt placeStep pairAt pairStep judgeNumbers firstZero firstAt indexOf
 of-naming = 0
 
 unfoldable of-areas : ℕ
@@ -89,6 +91,19 @@ nan-nan : sceneText (areaOfTwo nanBytes nanBytes) ≡ refusedAtLine 3 0 6 0
 unfolding of-lists
 nan-nan = refl
 
+far-x : sceneText farOfX ≡ refusedLine 25 0 6
+unfolding of-naming
+far-x = refl
+
+far-24 : sceneText farOf24 ≡ refusedLine 22 0 0
+unfolding of-naming
+far-24 = refl
+
+-- the line of the rule's own example
+far-line : lineText (Far 1 0x3fcf_6b55_1652_38b9) ≡ bytes "far 1 3FCF6B55165238B9\n"
+unfolding farLine decimal hex flat
+far-line = refl
+
 too-long : (s : List ℕ) → 65536 < length s → sceneText s ≡ refusedLine 28 0 65536
 unfolding sceneText sceneTold textOf
 too-long s h = rw (lt-ltb _ _ h)
@@ -106,4 +121,8 @@ of-scenes = record {
   index-from-1 = λ e. differ 17 49 50 _ _ refl refl (λ n. omega (arith, n)) (sym x-nan ∙ e);
   last-faulty = λ e. differ 17 48 49 _ _ refl refl (λ n. omega (arith, n)) (sym nan-nan ∙ e);
   ten-for-all = λ e. differ 8 50 49 _ _ refl refl (λ n. omega (arith, n)) (sym short-9 ∙ e);
+  far-unknown = λ e. differ 9 53 49 _ _ refl refl (λ n. omega (arith, n)) (sym far-x ∙ e);
+  far-of-24-bytes = λ e. differ 9 50 53 _ _ refl refl (λ n. omega (arith, n)) (sym far-24 ∙ e);
+  far-in-lower-case = λ e. differ 7 70 102 _ _ refl refl (λ n. omega (arith, n)) (sym far-line ∙ e);
+  far-lowest-first = λ e. differ 6 51 57 _ _ refl refl (λ n. omega (arith, n)) (sym far-line ∙ e);
 }

@@ -1,5 +1,5 @@
--- Wrong readers of scenes (SCOPE 46, 47): each writes, at one scene, a last line or comes to a fault that the definition does not have there. Proved in
--- proofs/Scenes.antt. Definitions only.
+-- Wrong readers of scenes (SCOPE 46, 47, 52): each writes, at one scene, a last line or comes to a fault that the definition does not have there, or writes the line
+-- of a far otherwise. Proved in proofs/Scenes.antt. Definitions only.
 use Prim.Native.Nat.{ℕ, _<_}
 use mathlib.Core.Path.{_≡_}
 use mathlib.Core.List.{List, [], _∷_, _++_}
@@ -7,7 +7,9 @@ use lib.ListN.{length, replicate}
 use Rattle.loop_header.specs.Loops.{emptyHeader}
 use Rattle.scene_store.specs.declared.Area.{Area}
 use Rattle.scene_records.specs.declared.Fault.the-variants.{ManyAreas, ManyPositions}
-use Rattle.scene_lines.specs.Lines.{refusedLine, refusedAtLine}
+use Rattle.scene_words.specs.Bytes.{bytes}
+use Rattle.scene_lines.specs.declared.Line.the-variants.{Far}
+use Rattle.scene_lines.specs.Lines.{refusedLine, refusedAtLine, lineText}
 use Rattle.scene_notes.specs.Noted.{Scene}
 use Rattle.scene_steps.specs.Steps.{faulty, step}
 use Rattle.scene_run.specs.Run.{sceneText}
@@ -35,6 +37,13 @@ nanBytes = 0 ∷ 0 ∷ 0 ∷ 0 ∷ 0 ∷ 0 ∷ 248 ∷ 127 ∷ replicate 16 0
 -- area 1 with two positions
 abbrev pub areaOfTwo : List ℕ → List ℕ → List ℕ
 areaOfTwo p q = 50 ∷ 0 ∷ 0 ∷ 0 ∷ 1 ∷ 0 ∷ 1 ∷ 0 ∷ p ++ q
+
+-- a far of area 1 at X; and one that has the position alone
+abbrev pub farOfX : List ℕ
+farOfX = 26 ∷ 0 ∷ 0 ∷ 0 ∷ 4 ∷ 0 ∷ 1 ∷ 0 ∷ xBytes
+
+abbrev pub farOf24 : List ℕ
+farOf24 = 24 ∷ 0 ∷ 0 ∷ 0 ∷ 4 ∷ 0 ∷ replicate 24 1
 
 -- six bytes of a record of kind 9, whose body is missing
 abbrev pub shortOfKind9 : List ℕ
@@ -71,3 +80,11 @@ pub record OfScenes : Type 0 where
   pub last-faulty : sceneText (areaOfTwo nanBytes nanBytes) ≡ refusedAtLine 3 0 6 1 → ⊥
   -- one refusal 10 for every fault
   pub ten-for-all : sceneText shortOfKind9 ≡ refusedLine 10 0 6 → ⊥
+  -- kind 4 not known, where its area was not met
+  pub far-unknown : sceneText farOfX ≡ refusedLine 21 0 4 → ⊥
+  -- kind 4 with a body of 24 bytes, of which the first two are taken for a number that was not met
+  pub far-of-24-bytes : sceneText farOf24 ≡ refusedLine 25 0 6 → ⊥
+  -- the digits of a far in lower case
+  pub far-in-lower-case : lineText (Far 1 0x3fcf_6b55_1652_38b9) ≡ bytes "far 1 3fcf6b55165238b9\n" → ⊥
+  -- its digits with the lowest first
+  pub far-lowest-first : lineText (Far 1 0x3fcf_6b55_1652_38b9) ≡ bytes "far 1 9B83256155B6FCF3\n" → ⊥

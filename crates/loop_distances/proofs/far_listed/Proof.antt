@@ -1,9 +1,5 @@
--- Three work arrays of the size of the list are lent.
-use native.Mathlib.Omega.{arith}
+-- Either way it is the least with the edges listed.
 use borrow.Author.Needs.{needs}
-use mathlib.Core.Path.{sym}
-use Rattle.numbers.specs.F64 as F
-use Rattle.laws.proofs.Copies.{first-of}
 use Rattle.loop_distances.proofs.far_listed.Statement.{statement}
 use Rattle.loop_distances.proofs.far_listed.Tie as tie
 
@@ -11,14 +7,7 @@ pub far-listed-spec : {M : Type 1} → statement M
 far-listed-spec =
     tie.close
     (tie.spec
-    (λ c. search needs)
-    (λ c. search needs)
-    (λ c. sym (first-of 48 F.zero (omega (arith, c .before .before .before .before .pre .2))))
-    (λ c. search needs)
-    (λ c. sym (first-of 48 F.zero (omega (arith, c .before .before .before .before .before .pre .2))))
-    (λ c. search needs)
-    (λ c. sym (first-of 48 F.zero (omega (arith, c .before .before .before .before .before .before .pre .2))))
-    (λ c κs. let pre = c .before .before .before .before .before .before .pre in
-    let room = first-of 48 F.zero (omega (arith, pre .2)) in
-    (pre .0, pre .1, pre .2, record { for-work = room; for-across = room; for-units = room }))
-    (λ c. search needs))
+    (λ c κs. search needs)
+    (λ c. c .far-few .ensures)
+    (λ c κs. search needs)
+    (λ c. c .far-many .ensures))

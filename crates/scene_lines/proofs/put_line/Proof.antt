@@ -25,25 +25,32 @@ returns-pair c =
     let line = put .before .before .before .line3 .given .1 in
     (simp line (put .put-pair .ensures .0), simp line (put .put-pair .ensures .1))
 
-returns-end : tie.Need-returns-4
+returns-far : tie.Need-returns-4
+unfolding roomOf
+returns-far c =
+    let put = c .before .before in
+    let line = put .before .before .before .line4 .given .1 in
+    (simp line (put .put-far .ensures .0), simp line (put .put-far .ensures .1))
+
+returns-end : tie.Need-returns-5
 unfolding roomOf
 returns-end c =
     let put = c .before .before in
-    let line = put .before .before .before .line4 .given .1 in
+    let line = put .before .before .before .line5 .given .1 in
     (simp line (put .put-end .ensures .0), simp line (put .put-end .ensures .1))
 
-returns-refused : tie.Need-returns-5
+returns-refused : tie.Need-returns-6
 unfolding roomOf
 returns-refused c =
     let put = c .before .before in
-    let line = put .before .before .before .line5 .given .1 in
+    let line = put .before .before .before .line6 .given .1 in
     (simp line (put .put-refused .ensures .0), simp line (put .put-refused .ensures .1))
 
-returns-refused-at : tie.Need-returns-6
+returns-refused-at : tie.Need-returns-7
 unfolding roomOf
 returns-refused-at c =
     let put = c .before .before in
-    let line = put .before .before .before .line6 .given .1 in
+    let line = put .before .before .before .line7 .given .1 in
     (simp line (put .put-refused-at .ensures .0), simp line (put .put-refused-at .ensures .1))
 
 pub put-line-spec : {M : Type 1} → statement M
@@ -52,13 +59,15 @@ put-line-spec =
     (tie.spec
     (λ c. search needs) (λ c κs. search needs) (λ c. search needs) (λ c κs. search needs) (λ c. search needs)
     (λ c κs. search needs) (λ c. search needs) (λ c κs. search needs) (λ c. search needs) (λ c κs. search needs)
-    (λ c. search needs) (λ c κs. search needs)
+    (λ c. search needs) (λ c κs. search needs) (λ c. search needs) (λ c κs. search needs)
     (λ c. search needs)
     returns-area
     (λ c. search needs)
     returns-place
     (λ c. search needs)
     returns-pair
+    (λ c. search needs)
+    returns-far
     (λ c. search needs)
     returns-end
     (λ c. search needs)

@@ -1,4 +1,4 @@
--- A whole record is read by its kind, 1, 2 or 3; any other is unknown, at the field of the kind.
+-- A whole record is read by its kind, 1 to 4; any other is unknown, at the field of the kind.
 use Rattle.scene_records.specs.Records.{kindAt}
 use borrow.Author.Tests.{eq-eqb, ne-eqb}
 use borrow.Author.Needs.{needs}
@@ -26,12 +26,29 @@ returns-pair c =
     let no-area = no-place .before in
     simp (← no-area .before .number-at .ensures, ne-eqb _ _ (no-area .if1 .left), ne-eqb _ _ (no-place .if2 .left), eq-eqb _ _ (pair .if3 .taken), c .pair-at .ensures)
 
-returns-unknown : tie.Need-returns-4
+returns-far : tie.Need-returns-4
+unfolding kindAt
+returns-far c =
+    let far = c .before in
+    let no-pair = far .before in
+    let no-place = no-pair .before in
+    let no-area = no-place .before in
+    simp (
+      ← no-area .before .number-at .ensures,
+      ne-eqb _ _ (no-area .if1 .left),
+      ne-eqb _ _ (no-place .if2 .left),
+      ne-eqb _ _ (no-pair .if3 .left),
+      eq-eqb _ _ (far .if4 .taken),
+      c .place-at2 .ensures,
+    )
+
+returns-unknown : tie.Need-returns-5
 unfolding kindAt
 returns-unknown c =
-    let no-place = c .before in
+    let no-pair = c .before in
+    let no-place = no-pair .before in
     let no-area = no-place .before in
-    simp (← no-area .before .number-at .ensures, ne-eqb _ _ (no-area .if1 .left), ne-eqb _ _ (no-place .if2 .left), ne-eqb _ _ (c .if3 .left))
+    simp (← no-area .before .number-at .ensures, ne-eqb _ _ (no-area .if1 .left), ne-eqb _ _ (no-place .if2 .left), ne-eqb _ _ (no-pair .if3 .left), ne-eqb _ _ (c .if4 .left))
 
 pub kind-at-spec : {M : Type 1} → statement M
 kind-at-spec =
@@ -43,5 +60,7 @@ kind-at-spec =
     returns-place
     (λ c κs. search needs)
     returns-pair
+    (λ c κs. search needs)
+    returns-far
     (λ c. search needs)
     returns-unknown)

@@ -19,13 +19,13 @@ returns-bad : tie.Need-returns
 returns-bad c =
     let judged = c .before .before .before in
     let index = looked judged .index-of .ensures .0 in
-    place-bad (looked judged .before .before .before .before .before .pre) _ index (judged .judge-numbers .ensures) (c .before .f .given .1)
+    place-bad (looked judged .before .before .before .before .before .pre) _ index (judged .judge-numbers .ensures) _ (c .before .f .given .1)
 
 returns-fine : tie.Need-returns-2
 returns-fine c =
     let judged = c .before .before .before in
     let index = looked judged .index-of .ensures .0 in
-    place-fine (looked judged .before .before .before .before .before .pre) _ index (judged .judge-numbers .ensures) (c .before .enum-told .given .1) (c .place-met .ensures)
+    place-fine (looked judged .before .before .before .before .before .pre) _ index (judged .judge-numbers .ensures) _ (c .before .enum-told .given .1) (c .place-met .ensures)
 
 pub place-step-spec : {M : Type 1} → statement M
 place-step-spec =

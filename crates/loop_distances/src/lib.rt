@@ -1,5 +1,5 @@
-// How far a position is from an arc and from a loop's border, as a squared chord. The two public functions judge what they are handed, then answer; those below
-// them are total on every float.
+// How far a position is from an arc and from a loop's border, as a squared chord. The two public functions judge what they are handed, then answer. Those below
+// them are total on every float; `requires` for sizes, and of a ring that its corners and the query are positions that the judge lets pass.
 ghost use mathlib.Core.Path.{_≡_};
 ghost use Prim.Native.Nat.{_+_, _*_, _≤_, _<_};
 ghost use lib.ListN.{length};
@@ -122,7 +122,7 @@ pub struct Settled {
     pub count: usize,
 }
 
-// Takes in the edges of a block that are settled, and lists the others from the front of `open` on. The squared chord to a corner serves both its edges.
+// Takes in the edges of a block that are settled, and lists the others from the front of `listed` on. The squared chord to a corner serves both its edges.
 fn settle(
     positions: &[f64],
     normals: &[f64],

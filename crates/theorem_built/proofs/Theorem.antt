@@ -33,6 +33,7 @@ use Rattle.loop_ask.specs.Answers.{Told, refused, answer, boolTold}
 use Rattle.loop_ask.specs.Places.{insideCode, placeNoCorner, placeWithout, placeBy, placeOf, insideWith}
 use Rattle.loop_ask.specs.Questions as Q
 use Rattle.loop_ask.specs.Questions.{queryFault, pairFault, equivalentLoops}
+use Rattle.loop_distances.specs.Distances.{chord, far, boundaryTold, boundaryAnswer}
 use Rattle.loop_triangles.specs.Triangles.{Outcome, cutTold, fullOutcome, triangulateOutcome, acceptsAnswer}
 use Rattle.loop_triangles.specs.Demand.{Cutting}
 use Rattle.loop_triangles.proofs.Demand.{cut-is, demand-3}
@@ -88,6 +89,10 @@ module _ (h : Header) (ps ns : List Float) (cs : List ℕ) (f : loopFault h ps n
     on-edge : Answers 1 (Q.onEdgeAnswer h ps ns cs p)
     unfolding Q.onEdgeAnswer
     on-edge = rw asked (bool-told (onEdge ps ns (h .count) (cleared p)))
+
+    distance : boundaryAnswer h ps ns cs p ≡ chord (far ps ns (h .count) (cleared p))
+    unfolding boundaryTold
+    distance = rw asked
 
   convex : Answers 1 (Q.convexAnswer h ps ns cs)
   unfolding Q.convexAnswer
@@ -222,6 +227,7 @@ built = record {
   contains-position = λ a b. place (a .header) (a .positions) (a .normals) (a .classes) (whole a b);
   has-vertex = λ a b. vertex (a .header) (a .positions) (a .normals) (a .classes) (whole a b);
   any-edge-contains-position = λ a b. on-edge (a .header) (a .positions) (a .normals) (a .classes) (whole a b);
+  distance-to-boundary = λ a b. distance (a .header) (a .positions) (a .normals) (a .classes) (whole a b);
   is-convex = λ a b. convex (a .header) (a .positions) (a .normals) (a .classes) (whole a b);
   is-simple = λ a b. simple (a .header) (a .positions) (a .normals) (a .classes) (whole a b);
   is-equivalent = λ a c b d. equivalent (a .header) (a .positions) (a .normals) (a .classes) (c .header) (c .positions) (c .normals) (c .classes) (whole a b) (whole c d);

@@ -17,6 +17,7 @@ use Rattle.loop_build.specs.Build as Build
 use Rattle.loop_build.specs.Build.{Doubles, refusal, buildOutcome}
 use Rattle.loop_ask.specs.Answers.{Told, refused, answer}
 use Rattle.loop_ask.specs.Questions.{placeAnswer, vertexAnswer, onEdgeAnswer, convexAnswer, simpleAnswer, equivalentAnswer}
+use Rattle.loop_distances.specs.Distances.{chord, far, boundaryAnswer}
 use Rattle.loop_triangles.specs.Triangles.{triangulateOutcome, acceptsAnswer}
 use Rattle.loop_triangles.specs.Demand.{Cutting}
 use Rattle.loop_relate.specs.Relations.{relateAnswer}
@@ -77,6 +78,8 @@ pub record Built : Type 0 where
   pub contains-position : (a : Loop) → AsBuilt a → (p : Vec3) → faultOf (cleared p) ≡ 0 → Answers 2 (ask placeAnswer a p)
   pub has-vertex : (a : Loop) → AsBuilt a → (p : Vec3) → faultOf (cleared p) ≡ 0 → Answers 1 (ask vertexAnswer a p)
   pub any-edge-contains-position : (a : Loop) → AsBuilt a → (p : Vec3) → faultOf (cleared p) ≡ 0 → Answers 1 (ask onEdgeAnswer a p)
+  pub distance-to-boundary : (a : Loop) → AsBuilt a → (p : Vec3) → faultOf (cleared p) ≡ 0
+      → ask boundaryAnswer a p ≡ chord (far (a .positions) (a .normals) (a .header .count) (cleared p))
   pub is-convex : (a : Loop) → AsBuilt a → Answers 1 (ask convexAnswer a)
   pub is-simple : (a : Loop) → AsBuilt a → Answers 1 (ask simpleAnswer a)
   pub is-equivalent : (a b : Loop) → AsBuilt a → AsBuilt b → Answers 1 (ask (ask equivalentAnswer a) b)

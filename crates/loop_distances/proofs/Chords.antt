@@ -3,9 +3,8 @@ use Prim.Native.Nat.{ℕ, _+_, _*_, _≤_, _<_}
 use mathlib.Core.Path.{_≡_, refl, sym, ap, _∙_, subst}
 use mathlib.Core.Bool.{Bool, true, false, _||_, _&&_}
 use native.Mathlib.Omega.{arith}
-use lib.IntN.{ℤ}
 use lib.Dec.{T, ltb, eqb, lt→ltb, ltb→lt}
-use lib.Ieee.{Float, nan, inf, fin, binary64, ofBits, up, down, fits, round, sum, add, mul, neg, lt, le, eq}
+use lib.Ieee.{Float, nan, inf, fin, binary64, ofBits, up, down, fits, round, sum, add, mul, lt, le, eq}
 use lib.Ieee.Fits.{add-fits, eq→eqb}
 use Rattle.numbers.specs.Choice.{if_then_else_}
 use Rattle.numbers.specs.F64 as F

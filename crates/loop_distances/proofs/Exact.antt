@@ -1,6 +1,6 @@
 -- Each refusal of the two functions is given exactly when SCOPE 25 says, in the order of SCOPE 26: both directions. Assumes nothing.
-use Prim.Native.Nat.{ℕ, zero, suc}
-use mathlib.Core.Path.{_≡_, refl}
+use Prim.Native.Nat.{ℕ, suc}
+use mathlib.Core.Path.{refl}
 use Rattle.vec3.specs.Vec.{cleared}
 use Rattle.judge.specs.Why.{Exactly, Refuses}
 use Rattle.judge.proofs.Exactly.{refuses}

@@ -1,12 +1,12 @@
 -- SCOPE 49, 50: a distance is from 0 to 4, and of a ring the least of its edges', and the only one that is. Assumes nothing.
 use Prim.Native.Nat.{ℕ, zero, suc, _+_, _≤_, _<_}
-use mathlib.Core.Path.{_≡_, refl, sym, ap, _∙_, subst}
+use mathlib.Core.Path.{_≡_, refl, sym, ap, subst}
 use mathlib.Core.Bool.{Bool, true, false}
 use mathlib.Core.List.{List}
 use native.Mathlib.Omega.{arith}
 use lib.Dec.{T, eqb, eqb→eq}
 use lib.Ieee.Fits.{eq→eqb}
-use lib.Ieee.{Float, nan, inf, fin, ofBits, neg, lt, le}
+use lib.Ieee.{Float, ofBits, neg, lt}
 use Rattle.numbers.specs.Choice.{if_then_else_}
 use Rattle.numbers.specs.F64 as F
 use Rattle.laws.specs.Loop.{iterate}
@@ -16,16 +16,14 @@ use Rattle.vec3.specs.declared.Vec3.{Vec3}
 use Rattle.vec3.specs.Vec.{cleared}
 use Rattle.chord_length.specs.declared.ChordLength.{ChordLength}
 use Rattle.chord_length.specs.Chords.{squared, most, least}
-use Rattle.minor_arc.specs.declared.MinorArc.{MinorArc}
 use Rattle.arcs.specs.Answers.{clearedArc}
 use Rattle.arcs.specs.Answers as Arcs
 use Rattle.ring_edges.specs.Edges.{edgeAt}
-use Rattle.loop_header.specs.declared.Header.{Header}
 use Rattle.loop_ask.specs.Questions.{queryFault}
-use Rattle.loop_distances.specs.Distances.{farArc, farEdge, farRing, far, Told, refused, chord, judged, arcTold, boundaryTold, arcAnswer, boundaryAnswer}
+use Rattle.loop_distances.specs.Distances.{farArc, farEdge, farRing, far, Told, refused, chord, judged, arcTold, boundaryTold}
 use Rattle.loop_distances.specs.Least.{Chordal, OfEdge, edge, largest, Least, Distances}
-use Rattle.loop_distances.proofs.Order.{Held, lt-units}
-use Rattle.loop_distances.proofs.Chords.{Within, zero-held, zero-units, zero-within, four-held, most-within, least-within, far-within, units, same-chord, least-is, least-below-first, least-below-second, le-of-units, units-of-le, four-above}
+use Rattle.loop_distances.proofs.Order.{Held}
+use Rattle.loop_distances.proofs.Chords.{Within, zero-held, zero-units, zero-within, four-held, most-within, least-within, far-within, units, same-chord, least-below-first, least-below-second, le-of-units, units-of-le, four-above}
 
 -- ---- the least of k more, from the index i on
 abbrev taking : (ℕ → ChordLength) → ℕ → ChordLength → ChordLength

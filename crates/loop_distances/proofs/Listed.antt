@@ -1,20 +1,19 @@
 -- The edges listed: what the work arrays hold of them, and that the least over a block is that of its settled edges and then of the listed ones. Assumes nothing.
 use Prim.Native.Nat.{ℕ, zero, suc, _+_, _-_, _*_, _≤_, _<_}
-use mathlib.Core.Path.{_≡_, refl, sym, ap, _∙_, subst}
-use mathlib.Core.Bool.{Bool, true, false, _||_}
-use mathlib.Core.List.{List, [], _∷_}
+use mathlib.Core.Path.{_≡_, refl, ap, _∙_}
+use mathlib.Core.Bool.{Bool, true, false}
+use mathlib.Core.List.{List}
 use native.Mathlib.Nat.{zero-add}
 use native.Mathlib.Omega.{arith}
 use lib.Ieee.{Float}
-use lib.ListN.{length, getD, take}
+use lib.ListN.{length, getD}
 use Rattle.laws.specs.Loop.{iterate, flat}
 use Rattle.laws.proofs.Parts.{flat-same}
 use Rattle.vec3.specs.declared.Vec3.{Vec3}
-use Rattle.vec3.specs.Vec.{unitVec, stableCross, stableUnit, orthogonalTo, posAt, rawAt, coords}
-use Rattle.vec3.proofs.Arrays.{size, raw-written}
+use Rattle.vec3.specs.Vec.{unitVec, stableUnit, posAt, rawAt, coords}
+use Rattle.vec3.proofs.Arrays.{raw-written}
 use Rattle.chord_length.specs.declared.ChordLength.{ChordLength}
 use Rattle.chord_length.specs.Chords.{least}
-use Rattle.minor_arc.specs.declared.MinorArc.{MinorArc}
 use Rattle.ring_edges.specs.Blocks.{unitAt, units}
 use Rattle.ring_edges.specs.Edges.{edgeAt}
 use Rattle.loop_distances.specs.Blocks.{listedIf, opens, Indexed, Below, acrossProduct, acrossProducts, footProduct, footProducts, farWith, eachLeast, listedFar, listedLeast}
@@ -24,7 +23,7 @@ unit-of : (f : ℕ → Vec3) (k j : ℕ) → j < k → unitAt (flat (λ i. coord
 unfolding unitAt
 unit-of f k j h = ap (λ (v : Vec3). unitVec (v .x) (v .y) (v .z)) (raw-written f k j h)
 
-pub units-of : (f : ℕ → Vec3) (k : ℕ) → units (flat (λ i. coords (f i)) k 0) k ≡ flat (λ i. coords (unitVec (f i .x) (f i .y) (f i .z))) k 0
+units-of : (f : ℕ → Vec3) (k : ℕ) → units (flat (λ i. coords (f i)) k 0) k ≡ flat (λ i. coords (unitVec (f i .x) (f i .y) (f i .z))) k 0
 units-of f k =
     flat-same (λ j. coords (unitAt (flat (λ i. coords (f i)) k 0) j)) (λ j. coords (unitVec (f j .x) (f j .y) (f j .z))) k 0
     (λ j h. rw (zero-add) (ap coords (unit-of f k j h)))
@@ -44,11 +43,8 @@ module _ (ps ns : List Float) (n : ℕ) (p : Vec3) (list : List ℕ) where
   unitFoot j = stableUnit (posAt ns (getD list j 0)) (acrossAt j)
 
   -- what the two arrays of unit vectors hold
-  pub across-is : {across : List Float} → across ≡ units (acrossProducts p ns list) (length list) → across ≡ flat (λ j. coords (acrossAt j)) (length list) 0
+  across-is : {across : List Float} → across ≡ units (acrossProducts p ns list) (length list) → across ≡ flat (λ j. coords (acrossAt j)) (length list) 0
   across-is e = e ∙ units-of (acrossProduct p ns list) (length list)
-
-  pub across-size : {across : List Float} → across ≡ units (acrossProducts p ns list) (length list) → length across ≡ 3 * length list
-  across-size e = ap length (across-is e) ∙ size acrossAt (length list)
 
   module _ {across units′ : List Float} (e : across ≡ units (acrossProducts p ns list) (length list)) (g : units′ ≡ units (footProducts ns list across) (length list)) where
     foot-same : (j : ℕ) → j < length list → coords (unitVec (footProduct ns list across j .x) (footProduct ns list across j .y) (footProduct ns list across j .z)) ≡ coords (unitFoot j)
@@ -56,17 +52,14 @@ module _ (ps ns : List Float) (n : ℕ) (p : Vec3) (list : List ℕ) where
         let raw : rawAt across j ≡ acrossAt j = ap (λ (l : List Float). rawAt l j) (across-is e) ∙ raw-written acrossAt (length list) j h in
         ap (λ (v : Vec3). coords (stableUnit (posAt ns (getD list j 0)) v)) raw
 
-    pub feet-are : units′ ≡ flat (λ j. coords (unitFoot j)) (length list) 0
+    feet-are : units′ ≡ flat (λ j. coords (unitFoot j)) (length list) 0
     feet-are =
         g ∙ units-of (footProduct ns list across) (length list)
         ∙ flat-same (λ j. coords (unitVec (footProduct ns list across j .x) (footProduct ns list across j .y) (footProduct ns list across j .z))) (λ j. coords (unitFoot j)) (length list) 0
         (λ j h. rw (zero-add) (foot-same j h))
 
-    pub feet-size : length units′ ≡ 3 * length list
-    feet-size = ap length feet-are ∙ size unitFoot (length list)
-
     -- so the least with these is the least with the edges listed
-    pub each-is : (before : ChordLength) → eachLeast ps ns n p list across units′ before ≡ listedLeast ps ns n p list before
+    each-is : (before : ChordLength) → eachLeast ps ns n p list across units′ before ≡ listedLeast ps ns n p list before
     unfolding edgeAt
     each-is before =
         iterate-same (λ j r. least r (farWith (edgeAt ps ns n (getD list j 0)) p (rawAt across j) (rawAt units′ j))) (λ j r. least r (listedFar ps ns n p list j)) (length list) 0 before

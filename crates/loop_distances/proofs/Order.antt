@@ -1,15 +1,14 @@
 -- Doubles that are neither negative nor -0.0 are ordered as the whole numbers of units that they are, and two of the same are one. Assumes nothing.
-use Prim.Native.Nat.{ℕ, zero, suc, _*_, _/_, _^_, _≤_, _<_}
+use Prim.Native.Nat.{ℕ, zero, suc, _*_, _/_, _^_, _<_}
 use mathlib.Core.Path.{_≡_, refl, sym, ap, _∙_, subst}
-use mathlib.Core.Bool.{Bool, true, false, _||_, _&&_}
-use native.Mathlib.Nat.{mul-pos, zero-mul, zero-div, mul-right-comm, mul-lt-mul-of-pos-right, lt-of-mul-lt-mul-right, le-of-suc-le-suc, lt-of-not-le}
+use mathlib.Core.Bool.{Bool, true, false}
+use native.Mathlib.Nat.{mul-pos, zero-mul, zero-div, mul-right-comm, mul-lt-mul-of-pos-right, lt-of-mul-lt-mul-right}
 use native.Mathlib.Omega.{arith}
 use lib.IntN.{ℤ}
-use lib.Dec.{T, ltb, eqb, lt→ltb, ltb→lt}
+use lib.Dec.{T, ltb, lt→ltb, ltb→lt}
 use lib.Pow.{pow-pos}
-use lib.Ieee.{Float, nan, inf, fin, binary64, up, down, fits, lt, le}
+use lib.Ieee.{Float, nan, inf, fin, binary64, up, down, fits, lt}
 use lib.Ieee.Fits.{down-pos}
-use Rattle.numbers.proofs.Rounds.{is-true, is-false}
 use Rattle.root.specs.Root.{inUnits}
 use Rattle.root.proofs.Units.{same-units}
 use Rattle.fractions.proofs.Round.{Plus}

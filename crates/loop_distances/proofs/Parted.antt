@@ -1,44 +1,36 @@
 -- The least over a block: a settled edge's distance is the nearer end's, and taking in the settled ones first and the listed ones then comes to the same as taking
 -- in all in order. Assumes nothing.
-use Prim.Native.Nat.{ℕ, zero, suc, _+_, _-_, _*_, _≤_, _<_}
+use Prim.Native.Nat.{ℕ, zero, suc, _+_, _-_, _≤_, _<_}
 use mathlib.Core.Path.{_≡_, refl, sym, ap, _∙_, subst}
 use mathlib.Core.Bool.{Bool, true, false, _||_}
 use mathlib.Core.List.{List, [], _∷_}
-use native.Mathlib.Nat.{sub-zero}
+use native.Mathlib.Nat.{sub-zero, mod-lt}
 use native.Mathlib.Omega.{arith}
 use lib.Dec.{T}
 use lib.Ieee.{Float}
 use lib.ListN.{length, getD, take}
 use lib.Seq.{length-take-le}
-use Rattle.numbers.specs.Choice.{if_then_else_}
 use Rattle.laws.specs.Loop.{iterate}
 use Rattle.laws.proofs.Loops.{Iterate, iterate-begin}
 use Rattle.laws.proofs.Parts.{iterate-part}
 use Rattle.vec3.specs.declared.Vec3.{Vec3}
-use Rattle.vec3.specs.Vec.{origin, same, stableUnit, orthogonalTo, posAt}
-use Rattle.judge.specs.Judge.{faultOf, positionFault}
+use Rattle.vec3.specs.Vec.{stableUnit, orthogonalTo, posAt}
 use Rattle.sizes.proofs.Unit.{Sized}
 use Rattle.sizes.proofs.Normal.{position-sized}
 use Rattle.chord_length.specs.declared.ChordLength.{ChordLength}
 use Rattle.chord_length.specs.Chords.{most, least}
 use Rattle.minor_arc.specs.declared.MinorArc.{MinorArc}
-use Rattle.minor_arc.specs.declared.Location.{Location}
-use Rattle.minor_arc.specs.Arcs.{within, locationOf}
-use Rattle.sure_sides.specs.Sure.{surely, Off}
+use Rattle.sure_sides.specs.Sure.{surely}
 use Rattle.sure_sides.proofs.Feet.{surely-off}
 use Rattle.ring_edges.specs.Edges.{edgeAt}
 use Rattle.loop_distances.specs.declared.Settled.{Settled}
-use Rattle.loop_distances.specs.Distances.{nearerEnd, pastEnd, acrossOf, footOf, byFoot, farArc, farEdge, farRing}
+use Rattle.loop_distances.specs.Distances.{nearerEnd, pastEnd, byFoot, farArc, farEdge, farRing}
 use Rattle.loop_distances.specs.Blocks.{settled, settledAt, takenIf, listedIf, opens, settling, Passed, Below, Fine, footBy, farWith, listedFar, listedLeast, leastOf}
 use Rattle.loop_distances.proofs.Chords.{Within, most-within, least-within, far-within, swap}
 use Rattle.loop_distances.proofs.Least.{fold-within}
 use Rattle.loop_distances.proofs.Listed.{entries, iterate-same, listed-below}
 
 -- ---- one edge
-or-left : (a b : Bool) → a ≡ true → a || b ≡ true
-or-left true b e = refl
-or-left false b e = absurd (subst T (sym e) tt)
-
 -- no root is needed where it is settled
 pub settled-far : (a : MinorArc) (p : Vec3) → Sized (a .start) 2 → Sized (a .end) 2 → Sized p 2 → settled a p ≡ true → farArc a p ≡ nearerEnd a p
 unfolding farArc byFoot
@@ -119,15 +111,12 @@ module _ (f : ℕ → ChordLength) (inside : (i : ℕ) → Within (f i)) (s : �
 
 -- ---- a block of edges
 module _ (ps ns : List Float) (n : ℕ) (p : Vec3) (fine : Fine ps n p) where
-  s : ℕ → Bool
-  s = settledAt ps ns n p
-
   corner-sized : (i : ℕ) → i < n → Sized (posAt ps i) 2
   corner-sized i h = position-sized (posAt ps i) (fine .corners i h)
 
   edge-settled : (i : ℕ) → i < n → 0 < n → settledAt ps ns n p i ≡ true → farEdge ps ns n p i ≡ nearerEnd (edgeAt ps ns n i) p
   unfolding edgeAt
-  edge-settled i h g e = settled-far (edgeAt ps ns n i) p (corner-sized i h) (corner-sized _ (native.Mathlib.Nat.mod-lt (i + 1) g)) (position-sized p (fine .query)) e
+  edge-settled i h g e = settled-far (edgeAt ps ns n i) p (corner-sized i h) (corner-sized _ (mod-lt (i + 1) g)) (position-sized p (fine .query)) e
 
   pub block : (k i : ℕ) (r : ChordLength) → i + k ≤ n → Within r
       → listedLeast ps ns n p (opens (settledAt ps ns n p) k i) (iterate (settling ps ns n p) k i r) ≡ iterate (λ j x. least x (farEdge ps ns n p j)) k i r

@@ -1,8 +1,8 @@
 -- A pass over a block: what is settled is taken in, and the others are listed, in order. Assumes nothing.
-use Prim.Native.Nat.{ℕ, zero, suc, _+_, _-_, _%_, _≤_, _<_}
-use mathlib.Core.Path.{_≡_, refl, sym, ap, _∙_, subst}
+use Prim.Native.Nat.{ℕ, suc, _+_, _-_, _%_, _≤_, _<_}
+use mathlib.Core.Path.{_≡_, refl, sym, ap, _∙_}
 use mathlib.Core.Bool.{Bool, true, false}
-use mathlib.Core.List.{List, [], _∷_, _++_, append-assoc, append-nil}
+use mathlib.Core.List.{List, [], _++_, append-assoc, append-nil}
 use native.Mathlib.Nat.{mod-eq-of-lt}
 use native.Mathlib.Numerals.{add-one}
 use native.Mathlib.Omega.{arith}
@@ -17,7 +17,6 @@ use Rattle.chord_length.specs.declared.ChordLength.{ChordLength}
 use Rattle.chord_length.specs.Chords.{least}
 use Rattle.chord_length.specs.Chords as Chords
 use Rattle.ring_edges.specs.Edges.{edgeAt}
-use Rattle.loop_distances.specs.declared.Settled.{Settled}
 use Rattle.loop_distances.specs.Blocks.{settledBy, settledAt, takenIf, countedIf, listedIf, opens, settling, Passed}
 
 -- one more is listed, or not

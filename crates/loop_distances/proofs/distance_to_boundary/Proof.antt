@@ -1,5 +1,4 @@
 -- The refusal of the loop and the position, or how far the one is from the other's border.
-use native.Mathlib.Omega.{arith}
 use borrow.Author.Needs.{needs}
 use Rattle.loop_ask.proofs.Judged.{query-sizes}
 use Rattle.loop_distances.proofs.Judged.{judged-hit, judged-none, query-fine}

@@ -2,8 +2,7 @@
 use native.Mathlib.Omega.{arith}
 use borrow.Author.Needs.{needs}
 use Prim.Native.Nat.{_-_, _≤_}
-use mathlib.Core.Path.{_≡_, refl, ap, _∙_}
-use Rattle.loop_distances.specs.Distances.{farRing}
+use mathlib.Core.Path.{_≡_, _∙_}
 use Rattle.loop_distances.specs.Blocks.{leastOf}
 use Rattle.loop_distances.proofs.Parted.{least-start, least-end}
 use Rattle.loop_distances.proofs.far_ring.Statement.{statement}

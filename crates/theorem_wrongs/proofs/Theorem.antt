@@ -34,6 +34,7 @@ use Rattle.theorem_settled.proofs.Computing as Computing
 use Rattle.theorem_wrongs.proofs.Computing.{of-places, of-pairs}
 use Rattle.theorem_wrongs.proofs.Angles.{of-angles}
 use Rattle.theorem_wrongs.proofs.Scenes.{of-scenes}
+use Rattle.theorem_wrongs.proofs.Distances.{of-distances}
 use Rattle.theorem_wrongs.proofs.Cutters.{by-the-rule}
 use Rattle.theorem_wrongs.proofs.Rings.{ring, area-1-built, area-2-built, across-built, in-the-other-built, in-the-one-built}
 use Rattle.theorem_wrongs.proofs.Rings.{one-mean-built, round-z-built, repeated-built, four-corners-built, five-positions-built, to-and-fro-built, ear-at-first-built, ear-at-last-built}
@@ -301,4 +302,5 @@ wrongs = record {
   of-mute = of-mute;
   of-contracts = of-contracts;
   of-scenes = of-scenes;
+  of-distances = of-distances;
 }

@@ -38,6 +38,7 @@ use Rattle.loop_triangles.specs.Triangles.{toldCut, Outcome, laid, triangulateO
 use Rattle.loop_relate.specs.Relations.{relateAnswer}
 use Rattle.theorem_wrongs.specs.Angles.{OfAngles}
 use Rattle.theorem_wrongs.specs.Scenes.{OfScenes}
+use Rattle.theorem_wrongs.specs.Distances.{OfDistances}
 use Rattle.theorem_settled.specs.Settled.{six-tenths, eight-tenths, minus-six-tenths, at, built, blank, blank-classes, area-1, flat-list, headerOf, four-built, four-cut, four-checked, full-one, empty-one, related}
 
 -- ---- the inputs
@@ -353,3 +354,4 @@ pub record Wrongs : Type 0 where
   pub of-mute : OfMute
   pub of-contracts : OfContracts
   pub of-scenes : OfScenes
+  pub of-distances : OfDistances

@@ -49,7 +49,7 @@ short-arc = arcOf (at F64.zero six-tenths eight-tenths) above-x
 abbrev pub leaning : MinorArc
 leaning = record { start = axis-x; end = at F64.zero eight-tenths six-tenths; normal = axis-z }
 
--- one whose start has no length, and a position with a component NaN
+-- an arc whose start has no length, and a position with a component NaN
 abbrev pub from-nowhere : MinorArc
 from-nowhere = record { start = origin; end = axis-y; normal = axis-z }
 
@@ -106,7 +106,7 @@ toFoot a p foot = Chords.chord p foot
 abbrev pub bySine : (Float → Float) → Float → Float
 bySine cosine c = let u = rootOf c ⊗ half in two ⊗ atan2 u (cosine u)
 
--- ---- what a line says: that the answer at p is another one than this program's
+-- ---- what a line says: that the answer at p is not this program's
 abbrev pub ArcOtherwise : (MinorArc → Vec3 → ChordLength) → MinorArc → Vec3 → Type 0
 ArcOtherwise program a p = arcAnswer a p ≡ chord (program a p) → ⊥
 
@@ -128,7 +128,7 @@ pub record OfDistances : Type 0 where
   pub strictly-past : ArcOtherwise (arcBy strictlyPast toStart byFoot) long-arc behind
   -- one with ab alone: at the arc's own end 0, where the answer is the foot's
   pub past-without-2-52 : ArcOtherwise (arcBy pastBare toStart byFoot) short-arc above-x
-  -- one that is made of the start, too: at the arc's own start 0, where the answer is the foot's
+  -- one for p past the start, too: at the arc's own start 0, where the answer is the foot's
   pub past-either-end : ArcOtherwise (arcBy pastEither toStart byFoot) long-arc between-x-y
   -- at a pole the nearer end, which is not the start
   pub nearer-end-at-a-pole : ArcOtherwise (arcBy pastEnd nearerEnd byFoot) leaning axis-z

@@ -10,7 +10,7 @@ use borrow.Author.Tests.{ltb-false, eqb-true}
 use Rattle.scene_records.specs.declared.Fault.the-variants.{CutShort, UnknownKind}
 use Rattle.scene_records.specs.declared.Read.{Read}
 use Rattle.scene_records.specs.declared.Read.the-variants.{End, Bad}
-use Rattle.scene_records.specs.Records.{u16Of, u32Of, kindField, areaAt, asked, placeAt, pairAt, kindAt, readAt, sizeOf}
+use Rattle.scene_records.specs.Records.{u16Of, u32Of, kindField, areaAt, placeAt, pairAt, kindAt, readAt, sizeOf}
 
 module _ (m at : ℕ) where
   either : (b : Bool) (x y : Read) → (b ≡ true → at + sizeOf x ≤ m) → (b ≡ false → at + sizeOf y ≤ m) → at + sizeOf (cond b x y) ≤ m
@@ -22,13 +22,9 @@ module _ (s : List ℕ) (at len : ℕ) (h : at + 6 + len ≤ length s) where
   unfolding areaAt
   area-size = either (length s) at _ _ _ (λ e. let q : len % 24 ≡ 2 = eqb-true _ _ e in omega arith) (λ e. omega arith)
 
-  asked-size : (far : Bool) (number : ℕ) → at + 32 ≤ length s → at + sizeOf (asked far number) ≤ length s
-  asked-size true number g = g
-  asked-size false number g = g
-
   place-size : (far : Bool) → at + sizeOf (placeAt far s at len) ≤ length s
   unfolding placeAt
-  place-size far = either (length s) at _ _ _ (λ e. let q : len ≡ 26 = eqb-true _ _ e in asked-size far _ (omega arith)) (λ e. omega arith)
+  place-size far = either (length s) at _ _ _ (λ e. let q : len ≡ 26 = eqb-true _ _ e in omega arith) (λ e. omega arith)
 
   pair-size : at + sizeOf (pairAt s at len) ≤ length s
   unfolding pairAt

@@ -10,7 +10,7 @@ use Rattle.wire.specs.Wire as W
 use Rattle.scene_records.specs.declared.Fault.{Fault}
 use Rattle.scene_records.specs.declared.Fault.the-variants.{CutShort, UnknownKind, WrongLength, NoNumber, Repeated, NotMet, ManyAreas, ManyPositions}
 use Rattle.scene_records.specs.declared.Read.{Read}
-use Rattle.scene_records.specs.declared.Read.the-variants.{End, Bad, Area, Place, Pair, Far}
+use Rattle.scene_records.specs.declared.Read.the-variants.{End, Bad, Area, Place, Pair}
 
 abbrev pub u16Of : List ℕ → ℕ → ℕ
 u16Of = W.u16Of
@@ -47,11 +47,8 @@ unfoldable pub areaAt : List ℕ → ℕ → ℕ → Read
 areaAt s at len = cond (eqb (len % 24) 2) (Area (u16Of s (at + 6)) (len / 24)) (Bad WrongLength (lengthField at))
 
 -- kinds 2 and 4: two bytes and a position, where it lies or how far it is (SCOPE 52)
-abbrev pub asked : Bool → ℕ → Read
-asked far number = cond far (Far number) (Place number)
-
 unfoldable pub placeAt : Bool → List ℕ → ℕ → ℕ → Read
-placeAt far s at len = cond (eqb len 26) (asked far (u16Of s (at + 6))) (Bad WrongLength (lengthField at))
+placeAt far s at len = cond (eqb len 26) (Place (u16Of s (at + 6)) far) (Bad WrongLength (lengthField at))
 
 -- kind 3: two numbers
 unfoldable pub pairAt : List ℕ → ℕ → ℕ → Read
@@ -76,9 +73,8 @@ abbrev pub sizeOf : Read → ℕ
 sizeOf End = 0
 sizeOf (Bad fault field) = 0
 sizeOf (Area number count) = 8 + 24 * count
-sizeOf (Place number) = 32
+sizeOf (Place number far) = 32
 sizeOf (Pair first second) = 10
-sizeOf (Far number) = 32
 
 -- the floats of n positions from an offset on
 abbrev pub floatsAt : List ℕ → ℕ → ℕ → List Float

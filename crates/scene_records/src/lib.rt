@@ -34,14 +34,14 @@ pub fn fault_number(f: Fault) -> u8
     }
 }
 
-// What stands at an offset: a record, with its area numbers and how many positions an area has; the end; or a fault and its field's offset.
+// What stands at an offset: a record, with its area numbers, how many positions an area has, and of a place whether it is asked how far it is; the end; or a
+// fault and its field's offset.
 pub enum Read {
     End,
     Bad(Fault, usize),
     Area(usize, usize),
-    Place(usize),
+    Place(usize, bool),
     Pair(usize, usize),
-    Far(usize),
 }
 
 // The number at an offset, as wide as an index.
@@ -61,17 +61,6 @@ fn length_at(s: &[u8], at: usize) -> usize
     wire::u32_at(s, at) as usize
 }
 
-// Kinds 2 and 4 ask of the area with a number where a position lies, or how `far` it is.
-fn asked(number: usize, far: bool) -> Read
-    ensures { λ r. ⌜ r ≡ R.asked far number ⌝ }
-{
-    if far {
-        Read::Far(number)
-    } else {
-        Read::Place(number)
-    }
-}
-
 fn area_at(s: &[u8], at: usize, len: usize) -> Read
     requires { ⌜ (length (now s) ≤ 65536) × (at + 6 + len ≤ length (now s)) ⌝ }
     ensures { λ r. ⌜ r ≡ R.areaAt (now (s .entry)) at len ⌝ }
@@ -82,6 +71,7 @@ fn area_at(s: &[u8], at: usize, len: usize) -> Read
     Read::Area(number_at(s, at + 6), len / 24)
 }
 
+// Kinds 2 and 4 ask of an area where a position lies, or how `far` it is.
 fn place_at(s: &[u8], at: usize, len: usize, far: bool) -> Read
     requires { ⌜ (length (now s) ≤ 65536) × (at + 6 + len ≤ length (now s)) ⌝ }
     ensures { λ r. ⌜ r ≡ R.placeAt far (now (s .entry)) at len ⌝ }
@@ -89,7 +79,7 @@ fn place_at(s: &[u8], at: usize, len: usize, far: bool) -> Read
     if len != 26 {
         return Read::Bad(Fault::WrongLength, at);
     }
-    asked(number_at(s, at + 6), far)
+    Read::Place(number_at(s, at + 6), far)
 }
 
 fn pair_at(s: &[u8], at: usize, len: usize) -> Read

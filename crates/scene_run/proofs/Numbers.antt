@@ -20,7 +20,7 @@ use Rattle.scene_lines.specs.declared.Line.{Line}
 use Rattle.scene_records.specs.declared.Fault.the-variants.{CutShort, UnknownKind, WrongLength, NoNumber, Repeated, ManyAreas, ManyPositions}
 use Rattle.scene_records.specs.declared.Read.{Read}
 use Rattle.scene_records.specs.declared.Read.the-variants as Read
-use Rattle.scene_records.specs.Records.{u16Of, u32Of, kindField, bodyField, areaAt, asked, placeAt, pairAt, kindAt, readAt, floatsAt}
+use Rattle.scene_records.specs.Records.{u16Of, u32Of, kindField, bodyField, areaAt, placeAt, pairAt, kindAt, readAt, floatsAt}
 use Rattle.scene_store.specs.declared.Area.{Area}
 use Rattle.scene_store.specs.Store.{corners, codes, blank, counted, triangleCount, placeIn, pairIn}
 use Rattle.scene_far.specs.declared.Said.{Said}
@@ -54,9 +54,8 @@ abbrev ReadSmall : Read → Type 0
 ReadSmall Read.End = Unit {0}
 ReadSmall (Read.Bad f field) = field < 100000
 ReadSmall (Read.Area number count) = number < 65536
-ReadSmall (Read.Place number) = number < 65536
+ReadSmall (Read.Place number far) = number < 65536
 ReadSmall (Read.Pair number other) = (number < 65536) × (other < 65536)
-ReadSmall (Read.Far number) = number < 65536
 
 either : (b : Bool) (x y : Read) → ReadSmall x → ReadSmall y → ReadSmall (cond b x y)
 either true x y f g = f
@@ -70,13 +69,9 @@ module _ (s : List ℕ) (bytes : (i : ℕ) → i < length s → getD s i 0 < 256
   unfolding areaAt
   area-read len = either (eqb (len % 24) 2) (Read.Area (u16Of s (at + 6)) (len / 24)) (Read.Bad WrongLength at) (two-bytes (at + 6)) (omega arith)
 
-  asked-read : (far : Bool) (number : ℕ) → number < 65536 → ReadSmall (asked far number)
-  asked-read true number h = h
-  asked-read false number h = h
-
   place-read : (far : Bool) (len : ℕ) → ReadSmall (placeAt far s at len)
   unfolding placeAt
-  place-read far len = either (eqb len 26) (asked far (u16Of s (at + 6))) (Read.Bad WrongLength at) (asked-read far _ (two-bytes (at + 6))) (omega arith)
+  place-read far len = either (eqb len 26) (Read.Place (u16Of s (at + 6)) far) (Read.Bad WrongLength at) (two-bytes (at + 6)) (omega arith)
 
   pair-read : (len : ℕ) → ReadSmall (pairAt s at len)
   unfolding pairAt
@@ -260,9 +255,8 @@ module _ (s : List ℕ) (w : Scene) where
     by-read Read.End h = tt
     by-read (Read.Bad f field) h = h
     by-read (Read.Area number count) h = judged-small number count h (judgeArea (w .areas) (w .given) (w .at) number count) refl (area-judged w g number count)
-    by-read (Read.Place number) h = place-by false number h (judgeNamed (w .areas) (w .at) (number ∷ [])) (numbers-judged w g (number ∷ []) (omega arith))
+    by-read (Read.Place number far) h = place-by far number h (judgeNamed (w .areas) (w .at) (number ∷ [])) (numbers-judged w g (number ∷ []) (omega arith))
     by-read (Read.Pair number other) h = pair-by number other h (judgeNamed (w .areas) (w .at) (number ∷ other ∷ [])) (numbers-judged w g (number ∷ other ∷ []) (omega arith))
-    by-read (Read.Far number) h = place-by true number h (judgeNamed (w .areas) (w .at) (number ∷ [])) (numbers-judged w g (number ∷ []) (omega arith))
 
   pub step-small : ((i : ℕ) → i < length s → getD s i 0 < 256) → Good s w → StepSmall (step s w)
   unfolding step

@@ -133,9 +133,8 @@ module _ {s : List ℕ} {w : Scene} (g : Good s w) where
     by-read Read.End h e = absurd (let z : _≡_ {A = ℕ} 0 1 = cc in omega arith)
     by-read (Read.Bad f field) h e = absurd (let z : _≡_ {A = ℕ} 0 1 = cc in omega arith)
     by-read (Read.Area number count) h e = judged-on number count h (judgeArea (w .areas) (w .given) (w .at) number count) refl e
-    by-read (Read.Place number) h e = place-judged false number h (judgeNamed (w .areas) (w .at) (number ∷ [])) e
+    by-read (Read.Place number far) h e = place-judged far number h (judgeNamed (w .areas) (w .at) (number ∷ [])) e
     by-read (Read.Pair number other) h e = pair-judged number other h (judgeNamed (w .areas) (w .at) (number ∷ other ∷ [])) e
-    by-read (Read.Far number) h e = place-judged true number h (judgeNamed (w .areas) (w .at) (number ∷ [])) e
 
     pub onward : step s w ≡ wrote l v → Onward s l w v
     unfolding step

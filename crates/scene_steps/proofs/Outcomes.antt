@@ -21,9 +21,8 @@ refused-kept : (x : Read) {c : Notes} → Kept c → Kept (refusedNotes x c)
 refused-kept Read.End k = k
 refused-kept (Read.Bad f field) k = k
 refused-kept (Read.Area number count) k = k
-refused-kept (Read.Place number) k = kept-passed 32 k refl
+refused-kept (Read.Place number far) k = kept-passed 32 k refl
 refused-kept (Read.Pair number other) k = kept-passed 10 k refl
-refused-kept (Read.Far number) k = kept-passed 32 k refl
 
 module _ (c at-refusal : Notes) (ps ns : List Float) (cs : List ℕ) where
   told-by : (x : Step) → toldStep (outcomeOf x c at-refusal ps ns cs .stepped) (outcomeOf x c at-refusal ps ns cs .positions) (outcomeOf x c at-refusal ps ns cs .normals) (outcomeOf x c at-refusal ps ns cs .classes) ≡ x

@@ -140,9 +140,8 @@ abbrev pub stepBy : Read → List ℕ → Scene → Step
 stepBy Read.End s w = ended
 stepBy (Read.Bad f field) s w = faulty f field
 stepBy (Read.Area number count) s w = areaStep s w number count
-stepBy (Read.Place number) s w = placeStep false s w number
+stepBy (Read.Place number far) s w = placeStep far s w number
 stepBy (Read.Pair number other) s w = pairStep w number other
-stepBy (Read.Far number) s w = placeStep true s w number
 
 unfoldable pub step : List ℕ → Scene → Step
 step s w = stepBy (readAt s (w .at)) s w
@@ -222,9 +221,8 @@ abbrev pub refusedNotes : Read → Notes → Notes
 refusedNotes Read.End c = c
 refusedNotes (Read.Bad f field) c = c
 refusedNotes (Read.Area number count) c = c
-refusedNotes (Read.Place number) c = passedNotes c 32
+refusedNotes (Read.Place number far) c = passedNotes c 32
 refusedNotes (Read.Pair number other) c = passedNotes c 10
-refusedNotes (Read.Far number) c = passedNotes c 32
 
 unfoldable pub stepOutcome : List ℕ → Notes → List Float → List Float → List ℕ → StepOutcome
 stepOutcome s c ps ns cs = outcomeOf (step s (view c ps ns cs)) c (refusedNotes (readAt s (c .at)) c) ps ns cs

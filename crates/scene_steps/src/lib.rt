@@ -272,8 +272,7 @@ pub fn step(
             next: c,
         },
         Read::Area(number, count) => { area_step(s, c, number, count, positions, normals, classes) }
-        Read::Place(number) => place_step(s, c, false, number, positions, normals, classes),
+        Read::Place(number, far) => place_step(s, c, far, number, positions, normals, classes),
         Read::Pair(number, other) => pair_step(s, c, number, other, positions, normals, classes),
-        Read::Far(number) => place_step(s, c, true, number, positions, normals, classes),
     }
 }

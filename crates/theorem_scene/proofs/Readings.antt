@@ -26,9 +26,9 @@ module _ (s : List ℕ) (at : ℕ) where
     unknown : Whole s at → (Known (kindOf s at) → ⊥) → ReadWhy (Read.Bad UnknownKind (kindField at))
     wrong : Whole s at → Known (kindOf s at) → (Fits (kindOf s at) (lengthOf s at) → ⊥) → ReadWhy (Read.Bad WrongLength (lengthField at))
     an-area : (count : ℕ) → IsArea s at count → ReadWhy (Read.Area (numberOf s at) count)
-    a-place : Formed s at 2 26 → ReadWhy (Read.Place (numberOf s at))
+    a-place : Formed s at 2 26 → ReadWhy (Read.Place (numberOf s at) false)
     a-pair : Formed s at 3 4 → ReadWhy (Read.Pair (numberOf s at) (u16Of s (at + 8)))
-    a-far : Formed s at 4 26 → ReadWhy (Read.Far (numberOf s at))
+    a-far : Formed s at 4 26 → ReadWhy (Read.Place (numberOf s at) true)
 
   module _ (whole : Whole s at) where
     -- a kind that is known, and no length that it asks for
@@ -73,7 +73,7 @@ module _ (s : List ℕ) (at : ℕ) where
     area-why e true t = an-area (lengthOf s at / 24) (record { whole = whole; of-kind = e; of-size = area-size (lengthOf s at) (eqb-true _ _ t) })
     area-why e false t = wrong whole (subst Known (sym e) Why.area) (wrong-area e (eqb-false _ _ t))
 
-    place-why : kindOf s at ≡ 2 → (b : Bool) → eqb (lengthOf s at) 26 ≡ b → ReadWhy (cond b (Read.Place (numberOf s at)) (Read.Bad WrongLength (lengthField at)))
+    place-why : kindOf s at ≡ 2 → (b : Bool) → eqb (lengthOf s at) 26 ≡ b → ReadWhy (cond b (Read.Place (numberOf s at) false) (Read.Bad WrongLength (lengthField at)))
     place-why e true t = a-place (record { whole = whole; of-kind = e; of-size = eqb-true _ _ t })
     place-why e false t = wrong whole (subst Known (sym e) Why.place) (wrong-place e (eqb-false _ _ t))
 
@@ -81,7 +81,7 @@ module _ (s : List ℕ) (at : ℕ) where
     pair-why e true t = a-pair (record { whole = whole; of-kind = e; of-size = eqb-true _ _ t })
     pair-why e false t = wrong whole (subst Known (sym e) Why.pair) (wrong-pair e (eqb-false _ _ t))
 
-    far-why : kindOf s at ≡ 4 → (b : Bool) → eqb (lengthOf s at) 26 ≡ b → ReadWhy (cond b (Read.Far (numberOf s at)) (Read.Bad WrongLength (lengthField at)))
+    far-why : kindOf s at ≡ 4 → (b : Bool) → eqb (lengthOf s at) 26 ≡ b → ReadWhy (cond b (Read.Place (numberOf s at) true) (Read.Bad WrongLength (lengthField at)))
     far-why e true t = a-far (record { whole = whole; of-kind = e; of-size = eqb-true _ _ t })
     far-why e false t = wrong whole (subst Known (sym e) Why.far) (wrong-far e (eqb-false _ _ t))
 
@@ -202,7 +202,7 @@ module _ (s : List ℕ) (at : ℕ) where
       let many : lengthOf s at / 24 ≡ count = omega (arith, size) in
       whole-read (f .whole) ∙ kind-area (f .of-kind) ∙ rw (eq-eqb _ _ rest, many)
 
-  pub place-read : Formed s at 2 26 → readAt s at ≡ Read.Place (numberOf s at)
+  pub place-read : Formed s at 2 26 → readAt s at ≡ Read.Place (numberOf s at) false
   unfolding placeAt
   place-read f = whole-read (f .whole) ∙ kind-place (f .of-kind) ∙ rw (eq-eqb _ _ (f .of-size))
 
@@ -210,6 +210,6 @@ module _ (s : List ℕ) (at : ℕ) where
   unfolding pairAt
   pair-read f = whole-read (f .whole) ∙ kind-pair (f .of-kind) ∙ rw (eq-eqb _ _ (f .of-size))
 
-  pub far-read : Formed s at 4 26 → readAt s at ≡ Read.Far (numberOf s at)
+  pub far-read : Formed s at 4 26 → readAt s at ≡ Read.Place (numberOf s at) true
   unfolding placeAt
   far-read f = whole-read (f .whole) ∙ kind-far (f .of-kind) ∙ rw (eq-eqb _ _ (f .of-size))

@@ -139,9 +139,8 @@ module _ {s : List ℕ} {w : Scene} {line : Line} {v : Scene} where
   by-read Read.End e = absurd (let z : _≡_ {A = ℕ} 0 1 = cc in omega arith)
   by-read (Read.Bad f field) e = absurd (let z : _≡_ {A = ℕ} 0 1 = cc in omega arith)
   by-read (Read.Area number count) e = area-by number count (judgeArea (w .areas) (w .given) (w .at) number count) e
-  by-read (Read.Place number) e = place-by false number (judgeNamed (w .areas) (w .at) (number ∷ [])) e
+  by-read (Read.Place number far) e = place-by far number (judgeNamed (w .areas) (w .at) (number ∷ [])) e
   by-read (Read.Pair number other) e = pair-by number other (judgeNamed (w .areas) (w .at) (number ∷ other ∷ [])) e
-  by-read (Read.Far number) e = place-by true number (judgeNamed (w .areas) (w .at) (number ∷ [])) e
 
   went : step s w ≡ wrote line v → Went s w v
   unfolding step

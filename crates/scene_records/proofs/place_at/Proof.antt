@@ -10,5 +10,5 @@ unfolding placeAt
 place-at-spec =
     tie.close
     (tie.spec
-    (λ c. simp (ne-eqb _ _ (c .if1 .taken))) (λ c. search needs) (λ c κs. search needs) (λ c κs. search needs)
-    (λ c. simp (eq-eqb _ _ (c .before .before .if1 .left), c .asked .ensures, c .before .number-at .ensures)))
+    (λ c. simp (ne-eqb _ _ (c .if1 .taken))) (λ c. search needs) (λ c κs. search needs)
+    (λ c. simp (eq-eqb _ _ (c .before .if1 .left), c .number-at .ensures)))

@@ -15,9 +15,6 @@ place-found c = c .before .before .before .before
 abbrev pair-found : tie.After-pair-step-arg3 → tie.After-number3
 pair-found c = c .before .before .before .before
 
-abbrev far-found : tie.After-place-step-arg6 → tie.After-number4
-far-found c = c .before .before .before .before
-
 area-step-requires : tie.Need-area-step-requires
 area-step-requires c κs =
     let read = area-found c .before .before in
@@ -32,11 +29,6 @@ pair-step-requires : tie.Need-pair-step-requires
 pair-step-requires c κs =
     let read = pair-found c .before .before in
     ready-on (read .before .before .before .before .before .pre) (read .read-at .ensures) (pair-found c .number3 .given .1)
-
-far-step-requires : tie.Need-place-step-requires-2
-far-step-requires c κs =
-    let read = far-found c .before .before in
-    ready-on (read .before .before .before .before .before .pre) (read .read-at .ensures) (far-found c .number4 .given .1)
 
 returns-end : tie.Need-returns
 returns-end c = step-is _ _ _ _ _ (c .before .before .read-at .ensures) (c .enum-told .given .1) refl
@@ -56,9 +48,6 @@ returns-place c = step-is _ _ _ _ _ (place-found (c .before) .before .before .re
 returns-pair : tie.Need-returns-5
 returns-pair c = step-is _ _ _ _ _ (pair-found (c .before) .before .before .read-at .ensures) (pair-found (c .before) .number3 .given .1) (c .pair-step .ensures)
 
-returns-far : tie.Need-returns-6
-returns-far c = step-is _ _ _ _ _ (far-found (c .before) .before .before .read-at .ensures) (far-found (c .before) .number4 .given .1) (c .place-step2 .ensures)
-
 pub step-spec : {M : Type 1} → statement M
 step-spec =
     tie.close
@@ -69,8 +58,6 @@ step-spec =
     place-step-requires
     (λ c. search needs)
     pair-step-requires
-    (λ c. search needs)
-    far-step-requires
     returns-end
     returns-bad
     (λ c. search needs) (λ c. search needs) (λ c. search needs)
@@ -78,6 +65,4 @@ step-spec =
     (λ c. search needs) (λ c. search needs) (λ c. search needs)
     returns-place
     (λ c. search needs) (λ c. search needs) (λ c. search needs)
-    returns-pair
-    (λ c. search needs) (λ c. search needs) (λ c. search needs)
-    returns-far)
+    returns-pair)

@@ -1,7 +1,7 @@
 -- What one record comes to (SCOPE 28, 29, 46, 47, 52). Definitions only.
 use Prim.Native.Nat.{ℕ, _+_, _*_, _≤_, _<_}
 use mathlib.Core.Path.{_≡_}
-use mathlib.Core.Bool.{_||_, Bool, true, false, cond}
+use mathlib.Core.Bool.{_||_, Bool, cond}
 use mathlib.Core.List.{List, [], _∷_, _++_}
 use lib.ListN.{length, drop, getD}
 use lib.Dec.{eqb}

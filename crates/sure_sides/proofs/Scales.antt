@@ -194,7 +194,8 @@ nothing-added a = go (a .gain .num) (a .gain .den) (a .loss .num) (a .loss .den)
     go p q r s = omega arith
 
 -- ---- sums of what is near
-pub snear-add : (x y : Float) (a b : Signed) (e f p q j : ℕ) → Fractions a → Fractions b → SNear x a e → SNear y b f → Size x p → Size y q → j ≤ 20 → p + q ≤ 2 ^ j → SNear (add binary64 x y) (a ⊹ b) (2 ^ j + (e + f))
+pub snear-add : (x y : Float) (a b : Signed) (e f p q j : ℕ) → Fractions a → Fractions b → SNear x a e → SNear y b f → Size x p → Size y q → j ≤ 20 → p + q ≤ 2 ^ j
+    → SNear (add binary64 x y) (a ⊹ b) (2 ^ j + (e + f))
 snear-add x y a b e f p q j A B h k P' Q' l m =
     let n : SNear (add binary64 x y) (signedOf x ⊹ signedOf y) (2 ^ j) = add-signed x y j (h .finite) (k .finite) l (wide (magnitude x .num) (magnitude x .den) (magnitude y .num) (magnitude y .den) (P' .small) (Q' .small)) in
     let s = signedOf x ⊹ signedOf y in

@@ -144,7 +144,8 @@ final-at : (Xp Xq Yp Yq Up Uq Vp Vq Tp Tq D : ℕ) → Xp ≤ Xq + 12 * D → Xq
 final-at Xp Xq Yp Yq Up Uq Vp Vq Tp Tq D a b c d e f g =
     combine (Xp * Yp + Xq * Yq) (Xp * Yq + Xq * Yp) (Up * Vp + Uq * Vq) (Up * Vq + Uq * Vp) Tp Tq (D * D) (turned Xp Xq Yp Yq D (prod-le Yp Yq Xp Xq 9007199254740992 (131108 * D) (12 * D) c d a b)) (uv Up Uq Vp Vq D e f) g
   where
-    turned : (Xp Xq Yp Yq D : ℕ) → (Yp * Xp + Yq * Xq) * 9007199254740992 ≤ (Yp * Xq + Yq * Xp) * 9007199254740992 + 131108 * D * (12 * D) → (Xp * Yp + Xq * Yq) * 9007199254740992 ≤ (Xp * Yq + Xq * Yp) * 9007199254740992 + 1573296 * (D * D)
+    turned : (Xp Xq Yp Yq D : ℕ) → (Yp * Xp + Yq * Xq) * 9007199254740992 ≤ (Yp * Xq + Yq * Xp) * 9007199254740992 + 131108 * D * (12 * D)
+        → (Xp * Yp + Xq * Yq) * 9007199254740992 ≤ (Xp * Yq + Xq * Yp) * 9007199254740992 + 1573296 * (D * D)
     turned Xp Xq Yp Yq D h = omega arith
 
 pub final-down : (X Y U O S : Z) (D : ℕ) → X .p ≤ X .q + 12 * D → X .q ≤ X .p + 12 * D → Flat Y D → U .q * 9007199254740992 + 8388572 * D ≤ U .p * 9007199254740992 → O .q * 4 + D ≤ O .p * 4

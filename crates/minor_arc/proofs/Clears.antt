@@ -17,7 +17,7 @@ use Rattle.numbers.proofs.Rounds.{is-true}
 use Rattle.numbers.specs.F64 as F
 use Rattle.minor_arc.specs.declared.MinorArc.{MinorArc}
 use Rattle.vec3.specs.Vec.{vec, cleared}
-use Rattle.minor_arc.specs.Arcs.{Plain, PlainVec, reversed}
+use Rattle.minor_arc.specs.Arcs.{Unsigned, UnsignedVec, reversed}
 
 -- ---- what fits is rounded to itself
 fits-either : (s t : Bool) (m : ℕ) (e : ℤ) → T (fits binary64 (fin s m e)) → T (fits binary64 (fin t m e))
@@ -90,7 +90,7 @@ minus-zero : fin true 0 (pos 0) ≡ neg F.zero
 unfolding neg ofBits
 minus-zero = refl
 
-pub plus-plain : (x : Float) → Plain x → F._⊕_ F.zero x ≡ x
+pub plus-plain : (x : Float) → Unsigned x → F._⊕_ F.zero x ≡ x
 unfolding add ofBits
 plus-plain nan p = refl
 plus-plain (inf s) p = refl
@@ -111,7 +111,7 @@ pub clear-once : (a b c : Float) → T (fits binary64 a) → T (fits binary64 b)
 clear-once a b c p q r = rw (plus-again a p, plus-again b q, plus-again c r)
 
 -- ---- the other way round, and back
-again : (x : Float) → Plain x → F._⊕_ F.zero (neg (F._⊕_ F.zero (neg x))) ≡ x
+again : (x : Float) → Unsigned x → F._⊕_ F.zero (neg (F._⊕_ F.zero (neg x))) ≡ x
 unfolding add neg ofBits
 again nan p = refl
 again (inf true) p = refl
@@ -121,5 +121,5 @@ again (fin false (suc m) e) p = rw (plus-some true m e (fits-either false true (
 again (fin true zero e) p = absurd (p .signed (zero-exponent true e (p .held) ∙ minus-zero))
 again (fin false zero e) p = subst (λ (x : Float). F._⊕_ F.zero (neg (F._⊕_ F.zero (neg x))) ≡ x) (sym (zero-exponent false e (p .held))) refl
 
-pub opposite-twice : (a : MinorArc) → PlainVec (a .normal) → reversed (reversed a) ≡ a
+pub opposite-twice : (a : MinorArc) → UnsignedVec (a .normal) → reversed (reversed a) ≡ a
 opposite-twice a p = rw (again (a .normal .x) (p .on-x), again (a .normal .y) (p .on-y), again (a .normal .z) (p .on-z))

@@ -5,6 +5,7 @@ use Rattle.vec3.specs.declared.Vec3.{Vec3}
 use Rattle.vec3.specs.Vec.{same, dot}
 use Rattle.minor_arc.specs.declared.MinorArc.{MinorArc}
 use Rattle.minor_arc.specs.declared.Meeting.{Meeting}
+use Rattle.minor_arc.specs.declared.Mode.{Mode}
 use Rattle.minor_arc.specs.declared.Meeting.the-variants as M
 use Rattle.minor_arc.specs.Arcs.{locationOf, within, meetingOf}
 use Rattle.arc_relations.specs.declared.MinorArcRelation.{MinorArcRelation}
@@ -43,5 +44,6 @@ settled r M.Collinear = r
 settled r (M.Crossing p) = Intersecting p
 settled r (M.Touching p) = Touching p
 
-unfoldable pub relationOf : MinorArc → MinorArc → MinorArcRelation
-relationOf a b = settled (collinearOf a b) (meetingOf a b)
+-- SCOPE 54: what collinear arcs share is the same in both modes
+unfoldable pub relationOf : Mode → MinorArc → MinorArc → MinorArcRelation
+relationOf mode a b = settled (collinearOf a b) (meetingOf mode a b)

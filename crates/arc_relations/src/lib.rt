@@ -4,6 +4,7 @@ ghost use Rattle.vec3.specs.Vec.{stableUnit};
 ghost use Rattle.arc_relations.specs.Relations as Relations;
 use minor_arc::Meeting;
 use minor_arc::MinorArc;
+use minor_arc::Mode;
 use vec3::Vec3;
 
 // How two arcs relate.
@@ -88,11 +89,11 @@ fn relate_collinear(a: MinorArc, o: MinorArc) -> MinorArcRelation
 }
 
 // `relate` with the unit vector of the normals' product at hand.
-pub fn relate_at(a: MinorArc, o: MinorArc, i: Vec3) -> MinorArcRelation
+pub fn relate_at(mode: Mode, a: MinorArc, o: MinorArc, i: Vec3) -> MinorArcRelation
     requires { ⌜ i ≡ stableUnit (a .normal) (o .normal) ⌝ }
-    ensures { λ r. ⌜ r ≡ Relations.relationOf a o ⌝ }
+    ensures { λ r. ⌜ r ≡ Relations.relationOf mode a o ⌝ }
 {
-    match a.meeting_at(o, i) {
+    match a.meeting_at(mode, o, i) {
         Meeting::Apart => MinorArcRelation::Disjoint,
         Meeting::Collinear => relate_collinear(a, o),
         Meeting::Crossing(p) => MinorArcRelation::Intersecting(p),
@@ -100,8 +101,8 @@ pub fn relate_at(a: MinorArc, o: MinorArc, i: Vec3) -> MinorArcRelation
     }
 }
 
-pub fn relate(a: MinorArc, o: MinorArc) -> MinorArcRelation
-    ensures { λ r. ⌜ r ≡ Relations.relationOf a o ⌝ }
+pub fn relate(mode: Mode, a: MinorArc, o: MinorArc) -> MinorArcRelation
+    ensures { λ r. ⌜ r ≡ Relations.relationOf mode a o ⌝ }
 {
-    relate_at(a, o, a.normal.stable_cross_prod_unit(o.normal))
+    relate_at(mode, a, o, a.normal.stable_cross_prod_unit(o.normal))
 }

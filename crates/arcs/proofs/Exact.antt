@@ -70,6 +70,6 @@ exact = record {
   opposite = λ a. judged-exact (arc-exact (clearedArc a)) _ refl;
   side = λ a p. judged-exact (query-exact (clearedArc a) (cleared p)) _ (side-answers (arcSide (clearedArc a) (cleared p)));
   contains = λ a p. judged-exact (query-exact (clearedArc a) (cleared p)) _ (bool-answers (onArc (clearedArc a) (cleared p)));
-  intersection = λ a b. judged-exact (pair-exact (clearedArc a) (clearedArc b)) _ (point-answers (meetingPoint (meetingOf (clearedArc a) (clearedArc b))));
-  relate = λ a b. judged-exact (pair-exact (clearedArc a) (clearedArc b)) _ (relation-answers (relationOf (clearedArc a) (clearedArc b)));
+  intersection = λ mode a b. judged-exact (pair-exact (clearedArc a) (clearedArc b)) _ (point-answers (meetingPoint (meetingOf mode (clearedArc a) (clearedArc b))));
+  relate = λ mode a b. judged-exact (pair-exact (clearedArc a) (clearedArc b)) _ (relation-answers (relationOf mode (clearedArc a) (clearedArc b)));
 }

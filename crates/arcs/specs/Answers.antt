@@ -25,6 +25,7 @@ use Rattle.arcs.specs.declared.Met.{Met}
 use Rattle.arcs.specs.declared.Met.the-variants as Met
 use Rattle.arcs.specs.declared.ArcRelated.{ArcRelated}
 use Rattle.arcs.specs.declared.ArcRelated.the-variants as Related
+use Rattle.minor_arc.specs.declared.Mode.{Mode}
 use Rattle.minor_arc.specs.Arcs.{arcOf, reversed, arcSide, onArc, meetingOf, meetingPoint}
 use Rattle.arc_relations.specs.Relations.{relationOf}
 
@@ -114,11 +115,12 @@ sideOfTold a p = judged (queryFault a p) (sideTold (arcSide a p))
 unfoldable pub containsTold : MinorArc → Vec3 → Told
 containsTold a p = judged (queryFault a p) (boolTold (onArc a p))
 
-unfoldable pub intersectionTold : MinorArc → MinorArc → Told
-intersectionTold a b = judged (pairFault a b) (pointTold (meetingPoint (meetingOf a b)))
+-- SCOPE 55: these two take the mode
+unfoldable pub intersectionTold : Mode → MinorArc → MinorArc → Told
+intersectionTold mode a b = judged (pairFault a b) (pointTold (meetingPoint (meetingOf mode a b)))
 
-unfoldable pub relateTold : MinorArc → MinorArc → Told
-relateTold a b = judged (pairFault a b) (relationTold (relationOf a b))
+unfoldable pub relateTold : Mode → MinorArc → MinorArc → Told
+relateTold mode a b = judged (pairFault a b) (relationTold (relationOf mode a b))
 
 -- of whatever is handed in
 abbrev pub newAnswer : Vec3 → Vec3 → Told
@@ -133,8 +135,8 @@ sideAnswer a p = sideOfTold (clearedArc a) (cleared p)
 abbrev pub containsAnswer : MinorArc → Vec3 → Told
 containsAnswer a p = containsTold (clearedArc a) (cleared p)
 
-abbrev pub intersectionAnswer : MinorArc → MinorArc → Told
-intersectionAnswer a b = intersectionTold (clearedArc a) (clearedArc b)
+abbrev pub intersectionAnswer : Mode → MinorArc → MinorArc → Told
+intersectionAnswer mode a b = intersectionTold mode (clearedArc a) (clearedArc b)
 
-abbrev pub relateAnswer : MinorArc → MinorArc → Told
-relateAnswer a b = relateTold (clearedArc a) (clearedArc b)
+abbrev pub relateAnswer : Mode → MinorArc → MinorArc → Told
+relateAnswer mode a b = relateTold mode (clearedArc a) (clearedArc b)

@@ -4,6 +4,7 @@ use Rattle.vec3.specs.declared.Vec3.{Vec3}
 use Rattle.vec3.specs.Vec.{cleared}
 use Rattle.judge.specs.Why.{Refuses, Then, VectorWhy, PositionWhy}
 use Rattle.minor_arc.specs.declared.MinorArc.{MinorArc}
+use Rattle.minor_arc.specs.declared.Mode.{Mode}
 use Rattle.arcs.specs.Answers.{refused, clearedArc, newAnswer, oppositeAnswer, sideAnswer, containsAnswer, intersectionAnswer, relateAnswer}
 
 -- the two ends of an arc, one by one, 3 before 4 for each
@@ -28,5 +29,5 @@ pub record Exact : Type 0 where
   pub opposite : (a : MinorArc) → Refuses refused (oppositeAnswer a) (ArcWhy (clearedArc a))
   pub side : (a : MinorArc) (p : Vec3) → Refuses refused (sideAnswer a p) (QueryWhy (clearedArc a) (cleared p))
   pub contains : (a : MinorArc) (p : Vec3) → Refuses refused (containsAnswer a p) (QueryWhy (clearedArc a) (cleared p))
-  pub intersection : (a b : MinorArc) → Refuses refused (intersectionAnswer a b) (PairWhy (clearedArc a) (clearedArc b))
-  pub relate : (a b : MinorArc) → Refuses refused (relateAnswer a b) (PairWhy (clearedArc a) (clearedArc b))
+  pub intersection : (mode : Mode) (a b : MinorArc) → Refuses refused (intersectionAnswer mode a b) (PairWhy (clearedArc a) (clearedArc b))
+  pub relate : (mode : Mode) (a b : MinorArc) → Refuses refused (relateAnswer mode a b) (PairWhy (clearedArc a) (clearedArc b))

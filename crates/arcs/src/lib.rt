@@ -5,6 +5,7 @@ ghost use Rattle.arcs.specs.Answers as Answers;
 use arc_relations::MinorArcRelation;
 use base::Side;
 use minor_arc::MinorArc;
+use minor_arc::Mode;
 use vec3::Point;
 use vec3::Vec3;
 
@@ -156,8 +157,8 @@ pub fn contains_position(a: MinorArc, p: Vec3) -> Contained
     tell_contained(arc.contains_position(q))
 }
 
-pub fn intersection(a: MinorArc, b: MinorArc) -> Met
-    ensures { λ r. ⌜ Answers.toldMet r ≡ Answers.intersectionAnswer a b ⌝ }
+pub fn intersection(mode: Mode, a: MinorArc, b: MinorArc) -> Met
+    ensures { λ r. ⌜ Answers.toldMet r ≡ Answers.intersectionAnswer mode a b ⌝ }
 {
     let one = clear_arc(a);
     let other = clear_arc(b);
@@ -165,11 +166,11 @@ pub fn intersection(a: MinorArc, b: MinorArc) -> Met
     if f != 0 {
         return Met::Refused(f);
     }
-    tell_point(one.intersection(other))
+    tell_point(one.intersection(mode, other))
 }
 
-pub fn relate(a: MinorArc, b: MinorArc) -> ArcRelated
-    ensures { λ r. ⌜ Answers.toldRelated r ≡ Answers.relateAnswer a b ⌝ }
+pub fn relate(mode: Mode, a: MinorArc, b: MinorArc) -> ArcRelated
+    ensures { λ r. ⌜ Answers.toldRelated r ≡ Answers.relateAnswer mode a b ⌝ }
 {
     let one = clear_arc(a);
     let other = clear_arc(b);
@@ -177,5 +178,5 @@ pub fn relate(a: MinorArc, b: MinorArc) -> ArcRelated
     if f != 0 {
         return ArcRelated::Refused(f);
     }
-    tell_relation(arc_relations::relate(one, other))
+    tell_relation(arc_relations::relate(mode, one, other))
 }

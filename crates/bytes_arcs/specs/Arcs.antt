@@ -10,6 +10,7 @@ use Rattle.laws.specs.Loop.{first}
 use Rattle.vec3.specs.declared.Vec3.{Vec3}
 use Rattle.wire.specs.Wire.{vecOf, vecBytes}
 use Rattle.minor_arc.specs.declared.MinorArc.{MinorArc}
+use Rattle.minor_arc.specs.declared.Mode.{Mode}
 use Rattle.arcs.specs.Answers.{Told, refused, answer, judged, arcFault, newAnswer, oppositeAnswer, sideAnswer, containsAnswer, intersectionAnswer, relateAnswer}
 use Rattle.bytes_loop.specs.Outcome.{Outcome, outcome, refusalOf, unsigned}
 use Rattle.bytes_loop.specs.Layout.{sizeFault}
@@ -40,11 +41,12 @@ sideTold a p = judged (nextJudged a p 24) (sideAnswer (arcAt a) (vecOf p 0))
 abbrev pub containsTold : List ℕ → List ℕ → Told
 containsTold a p = judged (nextJudged a p 24) (containsAnswer (arcAt a) (vecOf p 0))
 
-abbrev pub intersectionTold : List ℕ → List ℕ → Told
-intersectionTold a b = judged (nextJudged a b 72) (intersectionAnswer (arcAt a) (arcAt b))
+-- SCOPE 55: these two take the mode
+abbrev pub intersectionTold : Mode → List ℕ → List ℕ → Told
+intersectionTold mode a b = judged (nextJudged a b 72) (intersectionAnswer mode (arcAt a) (arcAt b))
 
-abbrev pub relateTold : List ℕ → List ℕ → Told
-relateTold a b = judged (nextJudged a b 72) (relateAnswer (arcAt a) (arcAt b))
+abbrev pub relateTold : Mode → List ℕ → List ℕ → Told
+relateTold mode a b = judged (nextJudged a b 72) (relateAnswer mode (arcAt a) (arcAt b))
 
 -- ---- what is answered and written (SCOPE 33)
 abbrev pub numberOf : Told → ℕ

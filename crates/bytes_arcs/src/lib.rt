@@ -15,6 +15,7 @@ use arcs::Met;
 use arcs::Sided;
 use bytes_loop::refusal;
 use minor_arc::MinorArc;
+use minor_arc::Mode;
 use vec3::Vec3;
 
 fn size_fault(s: &[u8], n: usize) -> u8
@@ -172,22 +173,22 @@ pub fn contains(arc: &[u8], position: &[u8]) -> u32
     held(arcs::contains_position(arc_at(arc), wire::vec_at(position, 0)))
 }
 
-pub fn intersection(a: &[u8], b: &[u8], out: &mut [u8]) -> u32
-    ensures { λ r. ⌜ outcome r (now (out .exit)) ≡ Arcs.leave (Arcs.intersectionTold (now (a .entry)) (now (b .entry))) (now (out .entry)) ⌝ }
+pub fn intersection(mode: Mode, a: &[u8], b: &[u8], out: &mut [u8]) -> u32
+    ensures { λ r. ⌜ outcome r (now (out .exit)) ≡ Arcs.leave (Arcs.intersectionTold mode (now (a .entry)) (now (b .entry))) (now (out .entry)) ⌝ }
 {
     let f = next_judged(a, b, 72);
     if f != 0 {
         return refusal(f);
     }
-    leave_met(out, arcs::intersection(arc_at(a), arc_at(b)))
+    leave_met(out, arcs::intersection(mode, arc_at(a), arc_at(b)))
 }
 
-pub fn relate(a: &[u8], b: &[u8], out: &mut [u8]) -> u32
-    ensures { λ r. ⌜ outcome r (now (out .exit)) ≡ Arcs.leave (Arcs.relateTold (now (a .entry)) (now (b .entry))) (now (out .entry)) ⌝ }
+pub fn relate(mode: Mode, a: &[u8], b: &[u8], out: &mut [u8]) -> u32
+    ensures { λ r. ⌜ outcome r (now (out .exit)) ≡ Arcs.leave (Arcs.relateTold mode (now (a .entry)) (now (b .entry))) (now (out .entry)) ⌝ }
 {
     let f = next_judged(a, b, 72);
     if f != 0 {
         return refusal(f);
     }
-    leave_related(out, arcs::relate(arc_at(a), arc_at(b)))
+    leave_related(out, arcs::relate(mode, arc_at(a), arc_at(b)))
 }

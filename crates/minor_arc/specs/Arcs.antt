@@ -1,6 +1,8 @@
--- SCOPE 7, 8: minor arcs, where a point of an arc's great circle lies, and where two arcs meet. Definitions only.
+-- SCOPE 7, 8, 54: minor arcs, where a point of an arc's great circle lies, and where two arcs meet, by the mode. Definitions only.
+use Prim.Native.Nat.{ℕ}
 use mathlib.Core.Bool.{Bool, true, false, _&&_, _||_}
-use lib.Ieee.{lt}
+use lib.Dec.{ltb}
+use lib.Ieee.{Float, neg, lt}
 use Rattle.numbers.specs.Choice.{if_then_else_}
 use Rattle.numbers.specs.F64.{zero}
 use Rattle.numbers.specs.Near.{near}
@@ -16,6 +18,13 @@ use Rattle.minor_arc.specs.declared.Location.{Location}
 use Rattle.minor_arc.specs.declared.Location.the-variants.{Endpoint, Interior, Exterior}
 use Rattle.minor_arc.specs.declared.Meeting.{Meeting}
 use Rattle.minor_arc.specs.declared.Meeting.the-variants as M
+use Rattle.minor_arc.specs.declared.Mode.{Mode}
+use Rattle.minor_arc.specs.declared.Mode.the-variants.{Plain, Long}
+
+-- SCOPE 54: the number of each mode
+abbrev pub modeCode : Mode → ℕ
+modeCode Plain = 0
+modeCode Long = 1
 
 abbrev pub arcOf : Vec3 → Vec3 → MinorArc
 arcOf a b = record { start = a; end = b; normal = orthogonalTo a b }
@@ -50,15 +59,24 @@ within Exterior = false
 unfoldable pub onArc : MinorArc → Vec3 → Bool
 onArc a p = near (dot p (a .normal)) zero && within (locationOf a p)
 
--- SCOPE 8: of a point and its opposite the one on the side of this arc's start is the only candidate
+-- SCOPE 8: of a point and its opposite the one on the side of this arc's start, in plain mode the only candidate
 unfoldable pub nearer : Vec3 → Vec3 → Vec3
 nearer s i = if lt zero (dot s i) then i else opposite i
 
--- that one is beyond an end of the arc, and the products with the normal and each end settle it alone
-unfoldable pub missed : MinorArc → Vec3 → Bool
-missed a i =
+-- a point's products with the normal and each end, s and e, settle alone that it is beyond an end of the arc
+abbrev pub beyond : Float → Float → Bool
+beyond s e = settlesRight s || settlesLeft e
+
+-- SCOPE 54: in long mode the opposite point has to be beyond an end too; its products are the negated ones
+abbrev pub beyondBy : Mode → Float → Float → Bool
+beyondBy Plain s e = beyond s e
+beyondBy Long s e = beyond s e && beyond (neg s) (neg e)
+
+-- each point that the mode tries is beyond an end for sure
+unfoldable pub missed : Mode → MinorArc → Vec3 → Bool
+missed mode a i =
     let p = nearer (a .start) i in
-    settlesRight (dot p (cross (a .normal) (a .start))) || settlesLeft (dot p (cross (a .normal) (a .end)))
+    beyondBy mode (dot p (cross (a .normal) (a .start))) (dot p (cross (a .normal) (a .end)))
 
 -- what two arcs have in p, by where it lies on each
 abbrev pub meetAt : Vec3 → Location → Location → Meeting
@@ -73,11 +91,26 @@ meetAt p Interior Interior = M.Crossing p
 unfoldable pub meetingIn : MinorArc → MinorArc → Vec3 → Meeting
 meetingIn a b p = meetAt p (locationOf a p) (locationOf b p)
 
--- SCOPE 8: by that candidate, unless the unit vector of the normals' product is exactly zero: then the arcs are collinear
-unfoldable pub meetingOf : MinorArc → MinorArc → Meeting
-meetingOf a b =
+-- SCOPE 54: an interior meeting outranks a touch, and of two equal kinds the first point is reported
+abbrev pub rank : Meeting → ℕ
+rank M.Apart = 0
+rank M.Collinear = 0
+rank (M.Touching p) = 1
+rank (M.Crossing p) = 2
+
+unfoldable pub better : Meeting → Meeting → Meeting
+better m n = if ltb (rank m) (rank n) then n else m
+
+-- SCOPE 54: plain by p alone, long by p and its opposite
+abbrev pub tried : Mode → MinorArc → MinorArc → Vec3 → Meeting
+tried Plain a b p = meetingIn a b p
+tried Long a b p = better (meetingIn a b p) (meetingIn a b (opposite p))
+
+-- SCOPE 8, 54: by the points that the mode tries, unless the unit vector of the normals' product is exactly zero: then the arcs are collinear
+unfoldable pub meetingOf : Mode → MinorArc → MinorArc → Meeting
+meetingOf mode a b =
     let i = stableUnit (a .normal) (b .normal) in
-    if same i origin then M.Collinear else meetingIn a b (nearer (a .start) i)
+    if same i origin then M.Collinear else tried mode a b (nearer (a .start) i)
 
 -- SCOPE 8: what `intersection` makes of it, none for collinear arcs
 abbrev pub meetingPoint : Meeting → Point

@@ -28,6 +28,12 @@ pub enum Meeting {
     Touching(Vec3),
 }
 
+// Which of the two points are tried in which two great circles meet: the one on the side of the first arc's start alone, as in the source, or both.
+pub enum Mode {
+    Plain,
+    Long,
+}
+
 // By the sides of a point against (normal, start) and (normal, end).
 fn locate(s: Side, e: Side) -> Location
     ensures { λ r. ⌜ r ≡ Arcs.located s e ⌝ }
@@ -64,6 +70,23 @@ fn nearer(s: Vec3, i: Vec3) -> Vec3
     if s.dot_prod(i) > 0.0 { i } else { i.neg() }
 }
 
+// Whether a point's products with the normal and each end settle alone that it is beyond an end.
+fn beyond(s: f64, e: f64) -> bool
+    ensures { λ r. ⌜ r ≡ Arcs.beyond s e ⌝ }
+{
+    base::settles_right(s) | base::settles_left(e)
+}
+
+// The same of each point that the mode tries: the products of the opposite point are the negated ones, so no product is worked out again.
+fn beyond_by(mode: Mode, s: f64, e: f64) -> bool
+    ensures { λ r. ⌜ r ≡ Arcs.beyondBy mode s e ⌝ }
+{
+    match mode {
+        Mode::Plain => beyond(s, e),
+        Mode::Long => beyond(s, e) & beyond(-s, -e),
+    }
+}
+
 // What two arcs have in p, by where it lies on each.
 fn meet_at(p: Vec3, a: Location, b: Location) -> Meeting
     ensures { λ r. ⌜ r ≡ Arcs.meetAt p a b ⌝ }
@@ -81,6 +104,24 @@ fn meet_at(p: Vec3, a: Location, b: Location) -> Meeting
             Location::Interior => Meeting::Crossing(p),
         },
     }
+}
+
+fn rank(m: Meeting) -> u8
+    ensures { λ r. ⌜ r ≡ Arcs.rank m ⌝ }
+{
+    match m {
+        Meeting::Apart => 0,
+        Meeting::Collinear => 0,
+        Meeting::Touching(_) => 1,
+        Meeting::Crossing(_) => 2,
+    }
+}
+
+// An interior meeting outranks a touch; of two equal kinds the first is taken.
+fn better(m: Meeting, n: Meeting) -> Meeting
+    ensures { λ r. ⌜ r ≡ Arcs.better m n ⌝ }
+{
+    if rank(m) < rank(n) { n } else { m }
 }
 
 impl MinorArc {
@@ -151,35 +192,46 @@ impl MinorArc {
         meet_at(p, a, o.location(p))
     }
 
-    // Whether of i and its opposite the one on the side of this arc's start lies beyond an end for sure: one test that settles most of them.
-    pub fn misses(self, i: Vec3) -> bool
-        ensures { λ r. ⌜ r ≡ Arcs.missed self i ⌝ }
+    // By the points that the mode tries.
+    fn tried(self, mode: Mode, o: MinorArc, p: Vec3) -> Meeting
+        ensures { λ r. ⌜ r ≡ Arcs.tried mode self o p ⌝ }
+    {
+        let m = self.meeting_in(o, p);
+        match mode {
+            Mode::Plain => m,
+            Mode::Long => better(m, self.meeting_in(o, p.neg())),
+        }
+    }
+
+    // Whether of i and its opposite each one that the mode tries lies beyond an end for sure: one test that settles most of them.
+    pub fn misses(self, mode: Mode, i: Vec3) -> bool
+        ensures { λ r. ⌜ r ≡ Arcs.missed mode self i ⌝ }
     {
         let p = nearer(self.start, i);
         let s = p.dot_prod(self.normal.cross_prod(self.start));
         let e = p.dot_prod(self.normal.cross_prod(self.end));
-        base::settles_right(s) | base::settles_left(e)
+        beyond_by(mode, s, e)
     }
 
     // The source's `intersection_details`, with the unit vector of the normals' product at hand, as a caller has it who works out many of them first. The
-    // great circles meet in a point and its opposite; the one on the side of this arc's start is the only candidate.
-    pub fn meeting_at(self, o: MinorArc, i: Vec3) -> Meeting
+    // great circles meet in a point and its opposite; in plain mode the one on the side of this arc's start is the only candidate.
+    pub fn meeting_at(self, mode: Mode, o: MinorArc, i: Vec3) -> Meeting
         requires { ⌜ i ≡ stableUnit (self .normal) (o .normal) ⌝ }
-        ensures { λ r. ⌜ r ≡ Arcs.meetingOf self o ⌝ }
+        ensures { λ r. ⌜ r ≡ Arcs.meetingOf mode self o ⌝ }
     {
         if i.equals(Vec3::ZERO) {
             Meeting::Collinear
         } else {
-            self.meeting_in(o, nearer(self.start, i))
+            self.tried(mode, o, nearer(self.start, i))
         }
     }
 
     // `intersection` with that vector at hand.
-    pub fn intersection_at(self, o: MinorArc, i: Vec3) -> Point
+    pub fn intersection_at(self, mode: Mode, o: MinorArc, i: Vec3) -> Point
         requires { ⌜ i ≡ stableUnit (self .normal) (o .normal) ⌝ }
-        ensures { λ r. ⌜ r ≡ Arcs.meetingPoint (Arcs.meetingOf self o) ⌝ }
+        ensures { λ r. ⌜ r ≡ Arcs.meetingPoint (Arcs.meetingOf mode self o) ⌝ }
     {
-        match self.meeting_at(o, i) {
+        match self.meeting_at(mode, o, i) {
             Meeting::Apart => Point::Absent,
             Meeting::Collinear => Point::Absent,
             Meeting::Crossing(p) => Point::At(p),
@@ -188,9 +240,9 @@ impl MinorArc {
     }
 
     // The point in which the two arcs meet; none where they are collinear.
-    pub fn intersection(self, o: MinorArc) -> Point
-        ensures { λ r. ⌜ r ≡ Arcs.meetingPoint (Arcs.meetingOf self o) ⌝ }
+    pub fn intersection(self, mode: Mode, o: MinorArc) -> Point
+        ensures { λ r. ⌜ r ≡ Arcs.meetingPoint (Arcs.meetingOf mode self o) ⌝ }
     {
-        self.intersection_at(o, self.normal.stable_cross_prod_unit(o.normal))
+        self.intersection_at(mode, o, self.normal.stable_cross_prod_unit(o.normal))
     }
 }

@@ -5,6 +5,7 @@ use mathlib.Core.Path.{_≡_, refl, ap, ap₂, _∙_}
 use mathlib.Core.List.{List}
 use lib.Ieee.{Float}
 use Rattle.laws.specs.Loop.{anyOf}
+use Rattle.minor_arc.specs.declared.Mode.{Mode}
 use Rattle.ring_edges.specs.Edges.{edgeAt}
 use Rattle.ring_pair.specs.Contacts.{graded, crosses, touches, anyCrosses, anyTouches, contactOf}
 
@@ -29,13 +30,13 @@ unfolding anyOf
 swap f zero m i = none-of m 0
 swap f (suc n) m i = ap (λ (b : Bool). anyOf (f i) m 0 || b) (swap f n m (suc i)) ∙ both-of (f i) (λ j. anyOf (λ i. f i j) n (suc i)) m 0
 
-module _ (ps ns : List Float) (n : ℕ) (os om : List Float) (m : ℕ) where
+module _ (mode : Mode) (ps ns : List Float) (n : ℕ) (os om : List Float) (m : ℕ) where
   abbrev pub crossed-by : ℕ → Bool
-  crossed-by j = anyOf (λ i. crosses (edgeAt ps ns n i) os om m j) n 0
+  crossed-by j = anyOf (λ i. crosses mode (edgeAt ps ns n i) os om m j) n 0
 
   abbrev pub touched-by : ℕ → Bool
-  touched-by j = anyOf (λ i. touches (edgeAt ps ns n i) os om m j) n 0
+  touched-by j = anyOf (λ i. touches mode (edgeAt ps ns n i) os om m j) n 0
 
-  pub either-order : contactOf ps ns n os om m ≡ graded (anyOf crossed-by m 0) (anyOf touched-by m 0)
+  pub either-order : contactOf mode ps ns n os om m ≡ graded (anyOf crossed-by m 0) (anyOf touched-by m 0)
   unfolding contactOf anyCrosses anyTouches
-  either-order = ap₂ graded (swap (λ i. crosses (edgeAt ps ns n i) os om m) n m 0) (swap (λ i. touches (edgeAt ps ns n i) os om m) n m 0)
+  either-order = ap₂ graded (swap (λ i. crosses mode (edgeAt ps ns n i) os om m) n m 0) (swap (λ i. touches mode (edgeAt ps ns n i) os om m) n m 0)

@@ -1,10 +1,11 @@
--- SCOPE 24: how the edges of two rings stand to each other. Definitions only.
+-- SCOPE 24, 55: how the edges of two rings stand to each other. Definitions only.
 use Prim.Native.Nat.{ℕ, _-_}
 use mathlib.Core.Bool.{Bool, true, false}
 use mathlib.Core.List.{List}
 use lib.Ieee.{Float}
 use Rattle.laws.specs.Loop.{anyOf}
 use Rattle.minor_arc.specs.declared.MinorArc.{MinorArc}
+use Rattle.minor_arc.specs.declared.Mode.{Mode}
 use Rattle.arc_relations.specs.declared.MinorArcRelation.{MinorArcRelation}
 use Rattle.arc_relations.specs.declared.MinorArcRelation.the-variants.{Disjoint, Intersecting, Touching, Overlapping}
 use Rattle.arc_relations.specs.Relations.{relationOf}
@@ -40,34 +41,34 @@ isTouched Apart = false
 isTouched Touched = true
 isTouched Crossed = false
 
--- edge j of the other ring, os and om of m corners, against an arc
-abbrev pub crosses : MinorArc → List Float → List Float → ℕ → ℕ → Bool
-crosses a os om m j = isCrossing (relationOf a (edgeAt os om m j))
+-- edge j of the other ring, os and om of m corners, against an arc; SCOPE 55: both are arcs of the loops' mode
+abbrev pub crosses : Mode → MinorArc → List Float → List Float → ℕ → ℕ → Bool
+crosses mode a os om m j = isCrossing (relationOf mode a (edgeAt os om m j))
 
-abbrev pub touches : MinorArc → List Float → List Float → ℕ → ℕ → Bool
-touches a os om m j = isTouch (relationOf a (edgeAt os om m j))
+abbrev pub touches : Mode → MinorArc → List Float → List Float → ℕ → ℕ → Bool
+touches mode a os om m j = isTouch (relationOf mode a (edgeAt os om m j))
 
 -- some edge of it
-unfoldable pub anyCrosses : MinorArc → List Float → List Float → ℕ → Bool
-anyCrosses a os om m = anyOf (crosses a os om m) m 0
+unfoldable pub anyCrosses : Mode → MinorArc → List Float → List Float → ℕ → Bool
+anyCrosses mode a os om m = anyOf (crosses mode a os om m) m 0
 
-unfoldable pub anyTouches : MinorArc → List Float → List Float → ℕ → Bool
-anyTouches a os om m = anyOf (touches a os om m) m 0
+unfoldable pub anyTouches : Mode → MinorArc → List Float → List Float → ℕ → Bool
+anyTouches mode a os om m = anyOf (touches mode a os om m) m 0
 
-abbrev pub arcContact : MinorArc → List Float → List Float → ℕ → Contact
-arcContact a os om m = graded (anyCrosses a os om m) (anyTouches a os om m)
+abbrev pub arcContact : Mode → MinorArc → List Float → List Float → ℕ → Contact
+arcContact mode a os om m = graded (anyCrosses mode a os om m) (anyTouches mode a os om m)
 
 -- the same for its edges from `from` up to `to` alone
-abbrev pub partContact : MinorArc → List Float → List Float → ℕ → ℕ → ℕ → Contact
-partContact a os om m from to = graded (anyOf (crosses a os om m) (to - from) from) (anyOf (touches a os om m) (to - from) from)
+abbrev pub partContact : Mode → MinorArc → List Float → List Float → ℕ → ℕ → ℕ → Contact
+partContact mode a os om m from to = graded (anyOf (crosses mode a os om m) (to - from) from) (anyOf (touches mode a os om m) (to - from) from)
 
 -- edge i of a ring against all edges of the other
-abbrev pub edgeCrosses : List Float → List Float → ℕ → List Float → List Float → ℕ → ℕ → Bool
-edgeCrosses ps ns n os om m i = anyCrosses (edgeAt ps ns n i) os om m
+abbrev pub edgeCrosses : Mode → List Float → List Float → ℕ → List Float → List Float → ℕ → ℕ → Bool
+edgeCrosses mode ps ns n os om m i = anyCrosses mode (edgeAt ps ns n i) os om m
 
-abbrev pub edgeTouches : List Float → List Float → ℕ → List Float → List Float → ℕ → ℕ → Bool
-edgeTouches ps ns n os om m i = anyTouches (edgeAt ps ns n i) os om m
+abbrev pub edgeTouches : Mode → List Float → List Float → ℕ → List Float → List Float → ℕ → ℕ → Bool
+edgeTouches mode ps ns n os om m i = anyTouches mode (edgeAt ps ns n i) os om m
 
 -- crossed where some edge crosses some edge, else touched where some touches or overlaps some, else apart
-unfoldable pub contactOf : List Float → List Float → ℕ → List Float → List Float → ℕ → Contact
-contactOf ps ns n os om m = graded (anyOf (edgeCrosses ps ns n os om m) n 0) (anyOf (edgeTouches ps ns n os om m) n 0)
+unfoldable pub contactOf : Mode → List Float → List Float → ℕ → List Float → List Float → ℕ → Contact
+contactOf mode ps ns n os om m = graded (anyOf (edgeCrosses mode ps ns n os om m) n 0) (anyOf (edgeTouches mode ps ns n os om m) n 0)

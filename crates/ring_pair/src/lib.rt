@@ -11,6 +11,7 @@ ghost use Rattle.ring_pair.specs.Contacts as C;
 ghost use Rattle.ring_pair.specs.Probes as P;
 use arc_relations::MinorArcRelation;
 use minor_arc::MinorArc;
+use minor_arc::Mode;
 use vec3::Point;
 use vec3::Vec3;
 
@@ -73,6 +74,7 @@ fn uncrossed(touched: bool) -> Contact
 
 // How an arc relates to edge j of a ring, with its candidate c at hand: an edge whose candidate misses the arc is not read.
 fn relation_at(
+    mode: Mode,
     a: MinorArc,
     others: &[f64],
     theirs: &[f64],
@@ -81,16 +83,17 @@ fn relation_at(
     c: Vec3,
 ) -> MinorArcRelation
     requires { ⌜ (j < m) × (m ≤ 512) × (3 * m ≤ length (now others)) × (3 * m ≤ length (now theirs)) × (c ≡ B.candidateAt (a .normal) (now theirs) j) ⌝ }
-    ensures { λ r. ⌜ r ≡ relationOf a (edgeAt (now (others .entry)) (now (theirs .entry)) m j) ⌝ }
+    ensures { λ r. ⌜ r ≡ relationOf mode a (edgeAt (now (others .entry)) (now (theirs .entry)) m j) ⌝ }
 {
-    if !c.equals(Vec3::ZERO) & a.misses(c) {
+    if !c.equals(Vec3::ZERO) & a.misses(mode, c) {
         return MinorArcRelation::Disjoint;
     }
-    arc_relations::relate_at(a, ring_edges::edge(others, theirs, m, j), c)
+    arc_relations::relate_at(mode, a, ring_edges::edge(others, theirs, m, j), c)
 }
 
 // How an arc stands to the edges from `from` up to `to`, with their candidates at hand: the first crossing ends it, a touch is remembered.
 fn edges_contact(
+    mode: Mode,
     a: MinorArc,
     others: &[f64],
     theirs: &[f64],
@@ -100,12 +103,12 @@ fn edges_contact(
     candidates: &[f64],
 ) -> Contact
     requires { ⌜ (from ≤ to) × (to ≤ m) × (m ≤ 512) × (3 * m ≤ length (now others)) × (3 * m ≤ length (now theirs)) × (now candidates ≡ B.candidates (a .normal) (now theirs) from (to - from)) ⌝ }
-    ensures { λ r. ⌜ r ≡ C.partContact a (now (others .entry)) (now (theirs .entry)) m from to ⌝ }
+    ensures { λ r. ⌜ r ≡ C.partContact mode a (now (others .entry)) (now (theirs .entry)) m from to ⌝ }
 {
     let mut touched = false;
     for j in from..to {
         let c = ring_edges::candidate(a.normal, theirs, candidates, from, to, j);
-        let k = grade(relation_at(a, others, theirs, m, j, c));
+        let k = grade(relation_at(mode, a, others, theirs, m, j, c));
         if is_crossed(k) {
             return Contact::Crossed;
         }
@@ -116,6 +119,7 @@ fn edges_contact(
 
 // The same, with room for the candidates.
 fn contact_with(
+    mode: Mode,
     a: MinorArc,
     others: &[f64],
     theirs: &[f64],
@@ -126,14 +130,15 @@ fn contact_with(
     candidates: &mut [f64],
 ) -> Contact
     requires { ⌜ (from ≤ to) × (to ≤ m) × (m ≤ 512) × (3 * m ≤ length (now others)) × (3 * m ≤ length (now theirs)) × (length (now work) ≡ 3 * (to - from)) × (length (now candidates) ≡ 3 * (to - from)) ⌝ }
-    ensures { λ r. ⌜ r ≡ C.partContact a (now (others .entry)) (now (theirs .entry)) m from to ⌝ }
+    ensures { λ r. ⌜ r ≡ C.partContact mode a (now (others .entry)) (now (theirs .entry)) m from to ⌝ }
 {
     ring_edges::write_candidates(a.normal, theirs, from, to - from, work, candidates);
-    edges_contact(a, others, theirs, m, from, to, candidates)
+    edges_contact(mode, a, others, theirs, m, from, to, candidates)
 }
 
 // How an arc stands to a block of edges: candidates first, so that no test waits for a root.
 fn block_contact(
+    mode: Mode,
     a: MinorArc,
     others: &[f64],
     theirs: &[f64],
@@ -142,12 +147,13 @@ fn block_contact(
     to: usize,
 ) -> Contact
     requires { ⌜ (from ≤ to) × (to ≤ from + 16) × (to ≤ m) × (m ≤ 512) × (3 * m ≤ length (now others)) × (3 * m ≤ length (now theirs)) ⌝ }
-    ensures { λ r. ⌜ r ≡ C.partContact a (now (others .entry)) (now (theirs .entry)) m from to ⌝ }
+    ensures { λ r. ⌜ r ≡ C.partContact mode a (now (others .entry)) (now (theirs .entry)) m from to ⌝ }
 {
     let size = 3 * (to - from);
     let mut work = [0.0f64; 48];
     let mut candidates = [0.0f64; 48];
     contact_with(
+        mode,
         a,
         others,
         theirs,
@@ -160,15 +166,15 @@ fn block_contact(
 }
 
 // How an arc stands to the edges of a ring, block by block.
-fn arc_contact(a: MinorArc, others: &[f64], theirs: &[f64], m: usize) -> Contact
+fn arc_contact(mode: Mode, a: MinorArc, others: &[f64], theirs: &[f64], m: usize) -> Contact
     requires { ⌜ (m ≤ 512) × (3 * m ≤ length (now others)) × (3 * m ≤ length (now theirs)) ⌝ }
-    ensures { λ r. ⌜ r ≡ C.arcContact a (now (others .entry)) (now (theirs .entry)) m ⌝ }
+    ensures { λ r. ⌜ r ≡ C.arcContact mode a (now (others .entry)) (now (theirs .entry)) m ⌝ }
 {
     let mut touched = false;
     let mut from = 0usize;
     while from < m {
         let to = ring_index::block_end(from, m);
-        let k = block_contact(a, others, theirs, m, from, to);
+        let k = block_contact(mode, a, others, theirs, m, from, to);
         if is_crossed(k) {
             return Contact::Crossed;
         }
@@ -180,6 +186,7 @@ fn arc_contact(a: MinorArc, others: &[f64], theirs: &[f64], m: usize) -> Contact
 
 // How the edges of two rings stand.
 pub fn contact_of(
+    mode: Mode,
     positions: &[f64],
     normals: &[f64],
     n: usize,
@@ -188,11 +195,12 @@ pub fn contact_of(
     m: usize,
 ) -> Contact
     requires { ⌜ (n ≤ 512) × (3 * n ≤ length (now positions)) × (3 * n ≤ length (now normals)) × (m ≤ 512) × (3 * m ≤ length (now others)) × (3 * m ≤ length (now theirs)) ⌝ }
-    ensures { λ r. ⌜ r ≡ C.contactOf (now (positions .entry)) (now (normals .entry)) n (now (others .entry)) (now (theirs .entry)) m ⌝ }
+    ensures { λ r. ⌜ r ≡ C.contactOf mode (now (positions .entry)) (now (normals .entry)) n (now (others .entry)) (now (theirs .entry)) m ⌝ }
 {
     let mut touched = false;
     for i in 0..n {
         let k = arc_contact(
+            mode,
             ring_edges::edge(positions, normals, n, i),
             others,
             theirs,

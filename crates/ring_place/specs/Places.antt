@@ -1,4 +1,4 @@
--- SCOPE 21, 22: whether a place is inside a ring, by the crossings of an arc from an inside, or, for three corners, by the edges' sides. Definitions only.
+-- SCOPE 21, 22, 55: whether a place is inside a ring, by the crossings of an arc from an inside, or, for three corners, by the edges' sides. Definitions only.
 use Prim.Native.Nat.{ℕ, _-_}
 use mathlib.Core.Bool.{Bool, true, false, not, _&&_, _||_}
 use mathlib.Core.List.{List}
@@ -16,6 +16,8 @@ use Rattle.vec3.specs.Vec.{origin, same, dot, antipodes, posAt}
 use Rattle.cap.specs.declared.Cap.{Cap}
 use Rattle.cap.specs.Caps.{contains}
 use Rattle.minor_arc.specs.declared.MinorArc.{MinorArc}
+use Rattle.minor_arc.specs.declared.Mode.{Mode}
+use Rattle.minor_arc.specs.declared.Mode.the-variants.{Plain, Long}
 use Rattle.minor_arc.specs.Arcs.{arcOf, meetingOf, meetingPoint}
 use Rattle.ring_place.specs.declared.Crossings.{Crossings}
 use Rattle.ring_edges.specs.Edges.{edgeAt, hasVertex}
@@ -47,20 +49,26 @@ abbrev pub passed : ℕ → ℕ → Point → Crossings → Crossings
 passed n i Absent s = tally (s .even) (s .first) origin
 passed n i (At p) s = metAt n i p s
 
-abbrev pub pass : MinorArc → List Float → List Float → ℕ → ℕ → Crossings → Crossings
-pass arc ps ns n i s = passed n i (meetingPoint (meetingOf arc (edgeAt ps ns n i))) s
+-- SCOPE 55: the arc and the edges are arcs of the loop's mode
+abbrev pub pass : Mode → MinorArc → List Float → List Float → ℕ → ℕ → Crossings → Crossings
+pass mode arc ps ns n i s = passed n i (meetingPoint (meetingOf mode arc (edgeAt ps ns n i))) s
 
 -- whether the arc crosses the ring's n edges an even number of times
-unfoldable pub crossedEvenly : MinorArc → List Float → List Float → ℕ → Bool
-crossedEvenly arc ps ns n = iterate (pass arc ps ns n) n 0 start .even
+unfoldable pub crossedEvenly : Mode → MinorArc → List Float → List Float → ℕ → Bool
+crossedEvenly mode arc ps ns n = iterate (pass mode arc ps ns n) n 0 start .even
 
 -- the inside that the arc starts from: the second where the first is exactly opposite p
 unfoldable pub from : Vec3 → Vec3 → Vec3 → Vec3
 from a b p = if antipodes a p then b else a
 
+-- SCOPE 21, 55: the cap is asked in plain mode alone, as a long side may leave it
+abbrev pub admits : Mode → Cap → Vec3 → Bool
+admits Plain cap p = contains cap p
+admits Long cap p = true
+
 -- SCOPE 21: inside by a cap, two insides a and b, and an even number of crossings
-unfoldable pub insideBy : Cap → Vec3 → Vec3 → List Float → List Float → ℕ → Vec3 → Bool
-insideBy cap a b ps ns n p = contains cap p && (same p a || same p b || crossedEvenly (arcOf (from a b p) p) ps ns n)
+unfoldable pub insideBy : Mode → Cap → Vec3 → Vec3 → List Float → List Float → ℕ → Vec3 → Bool
+insideBy mode cap a b ps ns n p = admits mode cap p && (same p a || same p b || crossedEvenly mode (arcOf (from a b p) p) ps ns n)
 
 -- a ring is clockwise, so inside is on the right of each edge, by more than 2^-52
 abbrev pub depth : List Float → ℕ → Vec3 → Float

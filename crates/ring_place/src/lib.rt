@@ -10,6 +10,7 @@ ghost use Rattle.ring_edges.specs.Edges as E;
 ghost use Rattle.ring_place.specs.Places as P;
 use cap::Cap;
 use minor_arc::MinorArc;
+use minor_arc::Mode;
 use vec3::Point;
 use vec3::Vec3;
 
@@ -75,18 +76,27 @@ fn passed(n: usize, i: usize, at: Point, s: Crossings) -> Crossings
 }
 
 // Where the arc meets edge i, with its candidate c at hand: an edge whose candidate misses the arc is not read.
-fn point_at(arc: MinorArc, positions: &[f64], normals: &[f64], n: usize, i: usize, c: Vec3) -> Point
+fn point_at(
+    mode: Mode,
+    arc: MinorArc,
+    positions: &[f64],
+    normals: &[f64],
+    n: usize,
+    i: usize,
+    c: Vec3,
+) -> Point
     requires { ⌜ (i < n) × (n ≤ 512) × (3 * n ≤ length (now positions)) × (3 * n ≤ length (now normals)) × (c ≡ B.candidateAt (arc .normal) (now normals) i) ⌝ }
-    ensures { λ r. ⌜ r ≡ meetingPoint (meetingOf arc (E.edgeAt (now (positions .entry)) (now (normals .entry)) n i)) ⌝ }
+    ensures { λ r. ⌜ r ≡ meetingPoint (meetingOf mode arc (E.edgeAt (now (positions .entry)) (now (normals .entry)) n i)) ⌝ }
 {
-    if arc.misses(c) {
+    if arc.misses(mode, c) {
         return Point::Absent;
     }
-    arc.intersection_at(ring_edges::edge(positions, normals, n, i), c)
+    arc.intersection_at(mode, ring_edges::edge(positions, normals, n, i), c)
 }
 
 // The edges from `from` up to `to`, with their candidates at hand.
 fn pass_edges(
+    mode: Mode,
     arc: MinorArc,
     positions: &[f64],
     normals: &[f64],
@@ -97,18 +107,19 @@ fn pass_edges(
     before: Crossings,
 ) -> Crossings
     requires { ⌜ (from ≤ to) × (to ≤ n) × (n ≤ 512) × (3 * n ≤ length (now positions)) × (3 * n ≤ length (now normals)) × (now candidates ≡ B.candidates (arc .normal) (now normals) from (to - from)) ⌝ }
-    ensures { λ r. ⌜ r ≡ iterate (P.pass arc (now (positions .entry)) (now (normals .entry)) n) (to - from) from before ⌝ }
+    ensures { λ r. ⌜ r ≡ iterate (P.pass mode arc (now (positions .entry)) (now (normals .entry)) n) (to - from) from before ⌝ }
 {
     let mut s = before;
     for i in from..to {
         let c = ring_edges::candidate(arc.normal, normals, candidates, from, to, i);
-        s = passed(n, i, point_at(arc, positions, normals, n, i, c), s);
+        s = passed(n, i, point_at(mode, arc, positions, normals, n, i, c), s);
     }
     s
 }
 
 // The same, with room for the candidates.
 fn pass_with(
+    mode: Mode,
     arc: MinorArc,
     positions: &[f64],
     normals: &[f64],
@@ -120,14 +131,25 @@ fn pass_with(
     before: Crossings,
 ) -> Crossings
     requires { ⌜ (from ≤ to) × (to ≤ n) × (n ≤ 512) × (3 * n ≤ length (now positions)) × (3 * n ≤ length (now normals)) × (length (now work) ≡ 3 * (to - from)) × (length (now candidates) ≡ 3 * (to - from)) ⌝ }
-    ensures { λ r. ⌜ r ≡ iterate (P.pass arc (now (positions .entry)) (now (normals .entry)) n) (to - from) from before ⌝ }
+    ensures { λ r. ⌜ r ≡ iterate (P.pass mode arc (now (positions .entry)) (now (normals .entry)) n) (to - from) from before ⌝ }
 {
     ring_edges::write_candidates(arc.normal, normals, from, to - from, work, candidates);
-    pass_edges(arc, positions, normals, n, from, to, candidates, before)
+    pass_edges(
+        mode,
+        arc,
+        positions,
+        normals,
+        n,
+        from,
+        to,
+        candidates,
+        before,
+    )
 }
 
 // A block of edges: candidates first, so that no test waits for a root.
 fn pass_block(
+    mode: Mode,
     arc: MinorArc,
     positions: &[f64],
     normals: &[f64],
@@ -137,12 +159,13 @@ fn pass_block(
     before: Crossings,
 ) -> Crossings
     requires { ⌜ (from ≤ to) × (to ≤ from + 16) × (to ≤ n) × (n ≤ 512) × (3 * n ≤ length (now positions)) × (3 * n ≤ length (now normals)) ⌝ }
-    ensures { λ r. ⌜ r ≡ iterate (P.pass arc (now (positions .entry)) (now (normals .entry)) n) (to - from) from before ⌝ }
+    ensures { λ r. ⌜ r ≡ iterate (P.pass mode arc (now (positions .entry)) (now (normals .entry)) n) (to - from) from before ⌝ }
 {
     let size = 3 * (to - from);
     let mut work = [0.0f64; 48];
     let mut candidates = [0.0f64; 48];
     pass_with(
+        mode,
         arc,
         positions,
         normals,
@@ -156,15 +179,21 @@ fn pass_block(
 }
 
 // Whether the arc crosses the edges an even number of times: block by block.
-pub fn crossed_evenly(arc: MinorArc, positions: &[f64], normals: &[f64], n: usize) -> bool
+pub fn crossed_evenly(
+    mode: Mode,
+    arc: MinorArc,
+    positions: &[f64],
+    normals: &[f64],
+    n: usize,
+) -> bool
     requires { ⌜ (n ≤ 512) × (3 * n ≤ length (now positions)) × (3 * n ≤ length (now normals)) ⌝ }
-    ensures { λ r. ⌜ r ≡ P.crossedEvenly arc (now (positions .entry)) (now (normals .entry)) n ⌝ }
+    ensures { λ r. ⌜ r ≡ P.crossedEvenly mode arc (now (positions .entry)) (now (normals .entry)) n ⌝ }
 {
     let mut s = Crossings::new(true, Vec3::ZERO, Vec3::ZERO);
     let mut from = 0usize;
     while from < n {
         let to = ring_index::block_end(from, n);
-        s = pass_block(arc, positions, normals, n, from, to, s);
+        s = pass_block(mode, arc, positions, normals, n, from, to, s);
         from = to;
     }
     s.even
@@ -177,8 +206,19 @@ fn from(a: Vec3, b: Vec3, p: Vec3) -> Vec3
     if a.is_antipode_of(p) { b } else { a }
 }
 
+// Whether the cap lets p be inside: in plain mode alone it is asked, as a long side may leave it.
+fn admits(mode: Mode, cap: Cap, p: Vec3) -> bool
+    ensures { λ r. ⌜ r ≡ P.admits mode cap p ⌝ }
+{
+    match mode {
+        Mode::Plain => cap.contains_position(p),
+        Mode::Long => true,
+    }
+}
+
 // Whether p is inside a ring with a cap and the insides a and b.
 pub fn inside_by(
+    mode: Mode,
     cap: Cap,
     a: Vec3,
     b: Vec3,
@@ -188,13 +228,13 @@ pub fn inside_by(
     p: Vec3,
 ) -> bool
     requires { ⌜ (n ≤ 512) × (3 * n ≤ length (now positions)) × (3 * n ≤ length (now normals)) ⌝ }
-    ensures { λ r. ⌜ r ≡ P.insideBy cap a b (now (positions .entry)) (now (normals .entry)) n p ⌝ }
+    ensures { λ r. ⌜ r ≡ P.insideBy mode cap a b (now (positions .entry)) (now (normals .entry)) n p ⌝ }
 {
-    if cap.contains_position(p) {
+    if admits(mode, cap, p) {
         if p.equals(a) | p.equals(b) {
             return true;
         }
-        return crossed_evenly(MinorArc::new(from(a, b, p), p), positions, normals, n);
+        return crossed_evenly(mode, MinorArc::new(from(a, b, p), p), positions, normals, n);
     }
     false
 }

@@ -1,4 +1,4 @@
--- SCOPE 23: the shape of a ring: convex, simple, and the same as another. Definitions only.
+-- SCOPE 23, 55: the shape of a ring: convex, simple, and the same as another. Definitions only.
 use Prim.Native.Nat.{ℕ, _+_, _-_, _%_}
 use mathlib.Core.Bool.{Bool, true, false, not, _&&_, _||_}
 use mathlib.Core.List.{List}
@@ -13,6 +13,7 @@ use Rattle.vec3.specs.Vec.{same, antipodes, posAt}
 use Rattle.base.specs.declared.Side.{Side}
 use Rattle.base.specs.declared.Side.the-variants.{Left, Right, Collinear}
 use Rattle.base.specs.Sides.{sideOf}
+use Rattle.minor_arc.specs.declared.Mode.{Mode}
 use Rattle.minor_arc.specs.Arcs.{meetingOf, meetingPoint}
 use Rattle.ring_edges.specs.Edges.{edgeAt}
 
@@ -55,22 +56,23 @@ abbrev pub isThere : Point → Bool
 isThere Absent = false
 isThere (At p) = true
 
-unfoldable pub edgesMeet : List Float → List Float → ℕ → ℕ → ℕ → Bool
-edgesMeet ps ns n i j = isThere (meetingPoint (meetingOf (edgeAt ps ns n i) (edgeAt ps ns n j)))
+-- SCOPE 55: the edges are arcs of the loop's mode
+unfoldable pub edgesMeet : Mode → List Float → List Float → ℕ → ℕ → ℕ → Bool
+edgesMeet mode ps ns n i j = isThere (meetingPoint (meetingOf mode (edgeAt ps ns n i) (edgeAt ps ns n j)))
 
 -- the edges after the next up to the last, which of the first edge is the one before the last: that one is contiguous with it
 unfoldable pub endOf : ℕ → ℕ → ℕ
 endOf n i = if eqb i 0 then n - 1 else n
 
-unfoldable pub meetsLater : List Float → List Float → ℕ → ℕ → Bool
-meetsLater ps ns n i = anyOf (edgesMeet ps ns n i) (endOf n i - (i + 2)) (i + 2)
+unfoldable pub meetsLater : Mode → List Float → List Float → ℕ → ℕ → Bool
+meetsLater mode ps ns n i = anyOf (edgesMeet mode ps ns n i) (endOf n i - (i + 2)) (i + 2)
 
-unfoldable pub anyMeetsLater : List Float → List Float → ℕ → Bool
-anyMeetsLater ps ns n = anyOf (meetsLater ps ns n) (n - 1) 0
+unfoldable pub anyMeetsLater : Mode → List Float → List Float → ℕ → Bool
+anyMeetsLater mode ps ns n = anyOf (meetsLater mode ps ns n) (n - 1) 0
 
 -- each two neighbours have one great circle, and no two edges that are not contiguous meet
-unfoldable pub simple : List Float → List Float → ℕ → Bool
-simple ps ns n = not (anyWithoutCircle ps n) && (leb n 3 || not (anyMeetsLater ps ns n))
+unfoldable pub simple : Mode → List Float → List Float → ℕ → Bool
+simple mode ps ns n = not (anyWithoutCircle ps n) && (leb n 3 || not (anyMeetsLater mode ps ns n))
 
 -- ---- `is_equivalent`, of two rings of n corners
 

@@ -5,6 +5,7 @@ ghost use Prim.Native.Nat.{_+_, _*_, _%_, _≤_, _<_};
 ghost use lib.ListN.{length};
 ghost use Rattle.ring_shape.specs.Shapes as S;
 use base::Side;
+use minor_arc::Mode;
 use vec3::Point;
 
 // The side at corner i, by the corners before and after it.
@@ -87,16 +88,14 @@ fn is_there(at: Point) -> bool
 }
 
 // Whether edges i and j meet in a point; collinear ones do not.
-fn edges_meet(positions: &[f64], normals: &[f64], n: usize, i: usize, j: usize) -> bool
+fn edges_meet(mode: Mode, positions: &[f64], normals: &[f64], n: usize, i: usize, j: usize) -> bool
     requires { ⌜ (i < n) × (j < n) × (n ≤ 512) × (3 * n ≤ length (now positions)) × (3 * n ≤ length (now normals)) ⌝ }
-    ensures { λ r. ⌜ r ≡ S.edgesMeet (now (positions .entry)) (now (normals .entry)) n i j ⌝ }
+    ensures { λ r. ⌜ r ≡ S.edgesMeet mode (now (positions .entry)) (now (normals .entry)) n i j ⌝ }
 {
-    is_there(ring_edges::edge(positions, normals, n, i).intersection(ring_edges::edge(
-        positions,
-        normals,
-        n,
-        j,
-    )))
+    is_there(ring_edges::edge(positions, normals, n, i).intersection(
+        mode,
+        ring_edges::edge(positions, normals, n, j),
+    ))
 }
 
 // Where the edges end that are not contiguous with edge i: the last edge is contiguous with the first.
@@ -108,26 +107,26 @@ fn end_of(n: usize, i: usize) -> usize
 }
 
 // Whether edge i meets one of those that come later and are not contiguous with it.
-fn meets_later(positions: &[f64], normals: &[f64], n: usize, i: usize) -> bool
+fn meets_later(mode: Mode, positions: &[f64], normals: &[f64], n: usize, i: usize) -> bool
     requires { ⌜ (3 < n) × (i + 1 < n) × (n ≤ 512) × (3 * n ≤ length (now positions)) × (3 * n ≤ length (now normals)) ⌝ }
-    ensures { λ r. ⌜ r ≡ S.meetsLater (now (positions .entry)) (now (normals .entry)) n i ⌝ }
+    ensures { λ r. ⌜ r ≡ S.meetsLater mode (now (positions .entry)) (now (normals .entry)) n i ⌝ }
 {
     let end = end_of(n, i);
     for j in i + 2..end {
-        if edges_meet(positions, normals, n, i, j) {
+        if edges_meet(mode, positions, normals, n, i, j) {
             return true;
         }
     }
     false
 }
 
-fn any_meets_later(positions: &[f64], normals: &[f64], n: usize) -> bool
+fn any_meets_later(mode: Mode, positions: &[f64], normals: &[f64], n: usize) -> bool
     requires { ⌜ (3 < n) × (n ≤ 512) × (3 * n ≤ length (now positions)) × (3 * n ≤ length (now normals)) ⌝ }
-    ensures { λ r. ⌜ r ≡ S.anyMeetsLater (now (positions .entry)) (now (normals .entry)) n ⌝ }
+    ensures { λ r. ⌜ r ≡ S.anyMeetsLater mode (now (positions .entry)) (now (normals .entry)) n ⌝ }
 {
     let end = n - 1;
     for i in 0..end {
-        if meets_later(positions, normals, n, i) {
+        if meets_later(mode, positions, normals, n, i) {
             return true;
         }
     }
@@ -135,9 +134,9 @@ fn any_meets_later(positions: &[f64], normals: &[f64], n: usize) -> bool
 }
 
 // Whether each two neighbours have one great circle, and no two edges that are not contiguous meet.
-pub fn is_simple(positions: &[f64], normals: &[f64], n: usize) -> bool
+pub fn is_simple(mode: Mode, positions: &[f64], normals: &[f64], n: usize) -> bool
     requires { ⌜ (n ≤ 512) × (3 * n ≤ length (now positions)) × (3 * n ≤ length (now normals)) ⌝ }
-    ensures { λ r. ⌜ r ≡ S.simple (now (positions .entry)) (now (normals .entry)) n ⌝ }
+    ensures { λ r. ⌜ r ≡ S.simple mode (now (positions .entry)) (now (normals .entry)) n ⌝ }
 {
     if any_without_circle(positions, n) {
         return false;
@@ -145,7 +144,7 @@ pub fn is_simple(positions: &[f64], normals: &[f64], n: usize) -> bool
     if n <= 3 {
         return true;
     }
-    !any_meets_later(positions, normals, n)
+    !any_meets_later(mode, positions, normals, n)
 }
 
 // Whether corner i of one ring and corner j of the other have one position and one class.

@@ -8,10 +8,11 @@ use Rattle.ring_pair.proofs.arc_contact.Statement.{statement}
 use Rattle.ring_pair.proofs.arc_contact.Tie as tie
 
 abbrev Inv-loop : tie.InvT-loop
-Inv-loop a others theirs m touched₀ from₀ touched from = Grade (crosses a others theirs m) (touches a others theirs m) m from touched (arcContact a others theirs m)
+Inv-loop mode a others theirs m touched₀ from₀ touched from =
+    Grade (crosses mode a others theirs m) (touches mode a others theirs m) m from touched (arcContact mode a others theirs m)
 
 abbrev μ-loop : tie.MeasureT-loop
-μ-loop a others theirs m touched₀ from₀ touched from = m - from
+μ-loop mode a others theirs m touched₀ from₀ touched from = m - from
 
 loop-holds : tie.Need-loop-holds Inv-loop μ-loop
 unfolding anyCrosses anyTouches

@@ -9,11 +9,12 @@ use Rattle.ring_pair.proofs.contact_of.Statement.{statement}
 use Rattle.ring_pair.proofs.contact_of.Tie as tie
 
 abbrev Inv-loop : tie.InvT-loop
-Inv-loop positions normals n others theirs m touched₀ i₀ touched i =
-    Grade (edgeCrosses positions normals n others theirs m) (edgeTouches positions normals n others theirs m) n i touched (contactOf positions normals n others theirs m)
+Inv-loop mode positions normals n others theirs m touched₀ i₀ touched i =
+    Grade (edgeCrosses mode positions normals n others theirs m) (edgeTouches mode positions normals n others theirs m) n i touched
+    (contactOf mode positions normals n others theirs m)
 
 abbrev μ-loop : tie.MeasureT-loop
-μ-loop positions normals n others theirs m touched₀ i₀ touched i = n - i
+μ-loop mode positions normals n others theirs m touched₀ i₀ touched i = n - i
 
 loop-holds : tie.Need-loop-holds Inv-loop μ-loop
 unfolding contactOf

@@ -9,10 +9,11 @@ use Rattle.ring_pair.proofs.edges_contact.Statement.{statement}
 use Rattle.ring_pair.proofs.edges_contact.Tie as tie
 
 abbrev Inv-loop : tie.InvT-loop
-Inv-loop a others theirs m from to candidates touched₀ j₀ touched j = Grade (crosses a others theirs m) (touches a others theirs m) to j touched (partContact a others theirs m from to) × (from ≤ j)
+Inv-loop mode a others theirs m from to candidates touched₀ j₀ touched j =
+    Grade (crosses mode a others theirs m) (touches mode a others theirs m) to j touched (partContact mode a others theirs m from to) × (from ≤ j)
 
 abbrev μ-loop : tie.MeasureT-loop
-μ-loop a others theirs m from to candidates touched₀ j₀ touched j = to - j
+μ-loop mode a others theirs m from to candidates touched₀ j₀ touched j = to - j
 
 candidate-requires : tie.Need-candidate-requires Inv-loop μ-loop
 candidate-requires c κs =

@@ -13,7 +13,7 @@ relation-at-spec =
     tie.close
     (tie.spec (λ c κs. tt) (λ c κs. tt)
     (λ c. let t = second-alone (c .before .before .equals .result) (c .before .misses .result) (c .if1 .taken) in
-    missed-disjoint _ _ (c .before .before .before .before .before .pre .4) (sym (c .before .misses .ensures) ∙ t .1) (sym (c .before .before .equals .ensures) ∙ t .0))
+    missed-disjoint _ _ _ (c .before .before .before .before .before .pre .4) (sym (c .before .misses .ensures) ∙ t .1) (sym (c .before .before .equals .ensures) ∙ t .0))
     (λ c κs. search needs)
     (λ c κs. simp (c .edge .ensures) (c .before .before .before .before .before .before .pre .4))
     (λ c. simp (c .relate-at .ensures, c .before .edge .ensures)))

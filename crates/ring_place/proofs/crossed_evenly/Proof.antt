@@ -10,10 +10,10 @@ use Rattle.ring_place.proofs.crossed_evenly.Statement.{statement}
 use Rattle.ring_place.proofs.crossed_evenly.Tie as tie
 
 abbrev Inv-loop : tie.InvT-loop
-Inv-loop arc positions normals n s₀ from₀ s from = Iterate (pass arc positions normals n) n from s (iterate (pass arc positions normals n) n 0 start)
+Inv-loop mode arc positions normals n s₀ from₀ s from = Iterate (pass mode arc positions normals n) n from s (iterate (pass mode arc positions normals n) n 0 start)
 
 abbrev μ-loop : tie.MeasureT-loop
-μ-loop arc positions normals n s₀ from₀ s from = n - from
+μ-loop mode arc positions normals n s₀ from₀ s from = n - from
 
 pub crossed-evenly-spec : {M : Type 1} → statement M
 unfolding crossedEvenly

@@ -1,4 +1,4 @@
--- A position outside the cap is not inside; in it, a given point is inside, and any other by the crossings on the way to it.
+-- A position that the cap does not admit is not inside; one that it admits: a given point is inside, and any other by the crossings on the way to it.
 use Rattle.ring_place.specs.Places.{insideBy}
 use borrow.Author.Needs.{needs}
 use Rattle.ring_place.proofs.inside_by.Statement.{statement}
@@ -10,7 +10,7 @@ returns c =
     let second = c .before in
     let one = second .before in
     let capped = one .before in
-    simp (← capped .before .contains-position .ensures, capped .if1 .taken, ← one .equals .ensures, ← second .equals2 .ensures, c .if2 .taken)
+    simp (← capped .before .admits .ensures, capped .if1 .taken, ← one .equals .ensures, ← second .equals2 .ensures, c .if2 .taken)
 
 returns-2 : tie.Need-returns-2
 unfolding insideBy
@@ -22,7 +22,7 @@ returns-2 c =
     let one = second .before in
     let capped = one .before in
     simp (
-      ← capped .before .contains-position .ensures,
+      ← capped .before .admits .ensures,
       capped .if1 .taken,
       ← one .equals .ensures,
       ← second .equals2 .ensures,
@@ -34,7 +34,7 @@ returns-2 c =
 
 returns-3 : tie.Need-returns-3
 unfolding insideBy
-returns-3 c = simp (← c .before .contains-position .ensures, c .if1 .left)
+returns-3 c = simp (← c .before .admits .ensures, c .if1 .left)
 
 pub inside-by-spec : {M : Type 1} → statement M
 inside-by-spec =

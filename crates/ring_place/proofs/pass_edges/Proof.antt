@@ -9,10 +9,10 @@ use Rattle.ring_place.proofs.pass_edges.Statement.{statement}
 use Rattle.ring_place.proofs.pass_edges.Tie as tie
 
 abbrev Inv-loop : tie.InvT-loop
-Inv-loop arc positions normals n from to candidates s₀ i₀ s i = Iterate (pass arc positions normals n) to i s (iterate (pass arc positions normals n) (to - from) from s₀) × (from ≤ i)
+Inv-loop mode arc positions normals n from to candidates s₀ i₀ s i = Iterate (pass mode arc positions normals n) to i s (iterate (pass mode arc positions normals n) (to - from) from s₀) × (from ≤ i)
 
 abbrev μ-loop : tie.MeasureT-loop
-μ-loop arc positions normals n from to candidates s₀ i₀ s i = to - i
+μ-loop mode arc positions normals n from to candidates s₀ i₀ s i = to - i
 
 pub pass-edges-spec : {M : Type 1} → statement M
 pass-edges-spec =

@@ -11,7 +11,7 @@ unfolding edgeAt candidateAt
 point-at-spec =
     tie.close
     (tie.spec (λ c κs. tt)
-    (λ c. missed-none _ _ (c .before .before .before .before .pre .4) (sym (c .before .misses .ensures) ∙ c .if1 .taken))
+    (λ c. missed-none _ _ _ (c .before .before .before .before .pre .4) (sym (c .before .misses .ensures) ∙ c .if1 .taken))
     (λ c κs. search needs)
     (λ c κs. simp (c .edge .ensures) (c .before .before .before .before .before .pre .4))
     (λ c. simp (c .intersection-at .ensures, c .before .edge .ensures)))

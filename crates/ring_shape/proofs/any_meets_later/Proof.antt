@@ -7,10 +7,10 @@ use Rattle.ring_shape.proofs.any_meets_later.Statement.{statement}
 use Rattle.ring_shape.proofs.any_meets_later.Tie as tie
 
 abbrev Inv-loop : tie.InvT-loop
-Inv-loop positions normals n end i₀ i = Any (meetsLater positions normals n) (n - 1) i (anyMeetsLater positions normals n)
+Inv-loop mode positions normals n end i₀ i = Any (meetsLater mode positions normals n) (n - 1) i (anyMeetsLater mode positions normals n)
 
 abbrev μ-loop : tie.MeasureT-loop
-μ-loop positions normals n end i₀ i = n - 1 - i
+μ-loop mode positions normals n end i₀ i = n - 1 - i
 
 pub any-meets-later-spec : {M : Type 1} → statement M
 unfolding anyMeetsLater

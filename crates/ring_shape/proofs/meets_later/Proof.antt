@@ -7,10 +7,10 @@ use Rattle.ring_shape.proofs.meets_later.Statement.{statement}
 use Rattle.ring_shape.proofs.meets_later.Tie as tie
 
 abbrev Inv-loop : tie.InvT-loop
-Inv-loop positions normals n i end j₀ j = Any (edgesMeet positions normals n i) end j (meetsLater positions normals n i)
+Inv-loop mode positions normals n i end j₀ j = Any (edgesMeet mode positions normals n i) end j (meetsLater mode positions normals n i)
 
 abbrev μ-loop : tie.MeasureT-loop
-μ-loop positions normals n i end j₀ j = end - j
+μ-loop mode positions normals n i end j₀ j = end - j
 
 pub meets-later-spec : {M : Type 1} → statement M
 unfolding meetsLater

@@ -10,4 +10,4 @@ meeting-at-spec =
     (λ c. simp (← c .before .before .pre, ← c .before .equals .ensures, c .if1 .taken))
     (λ c.
     let e = c .before .before in
-    simp (← e .before .before .pre, ← e .before .equals .ensures, e .if1 .left, ← c .before .nearer .ensures) (c .meeting-in .ensures)))
+    simp (← e .before .before .pre, ← e .before .equals .ensures, e .if1 .left, ← c .before .nearer .ensures) (c .tried .ensures)))

@@ -7,7 +7,7 @@ use lib.Ieee.Bits.{ofBits-fits}
 use Rattle.vec3.specs.Vec.{cleared}
 use Rattle.wire.specs.Wire.{u64Of, floatOf, vecOf}
 use Rattle.arcs.specs.Answers.{clearedArc}
-use Rattle.minor_arc.proofs.Clears.{clear-once}
+use Rattle.signs.proofs.Clears.{clear-once}
 use Rattle.bytes_arcs.specs.Arcs.{arcAt}
 
 pub position-clear : (s : List ℕ) (at : ℕ) → cleared (vecOf s at) ≡ vecOf s at

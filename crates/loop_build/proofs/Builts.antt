@@ -19,7 +19,7 @@ use Rattle.laws.proofs.Firsts.{firstOf-zero, firstOf-fine}
 use Rattle.vec3.specs.declared.Vec3.{Vec3}
 use Rattle.vec3.specs.Vec.{posAt, coords, vec}
 use Rattle.judge.specs.Judge.{positionFault, positionsFault}
-use Rattle.minor_arc.proofs.Clears.{clear-once}
+use Rattle.signs.proofs.Clears.{clear-once}
 use Rattle.ring_corners.specs.Corners.{cornerSource, cornerAt, classBy, classAt, ringOf, classesOf}
 use Rattle.vec3.proofs.Arrays.{size, raw-written}
 use Rattle.loop_header.specs.Loops.{threesOf, shapeFault, classFault, classesFault, ringFault, cutFault}

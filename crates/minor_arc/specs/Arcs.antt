@@ -1,9 +1,8 @@
 -- SCOPE 7, 8, 54: minor arcs, where a point of an arc's great circle lies, and where two arcs meet, by the mode. Definitions only.
 use Prim.Native.Nat.{ℕ}
 use mathlib.Core.Bool.{Bool, true, false, _&&_, _||_}
-use mathlib.Core.Path.{_≡_}
-use lib.Dec.{T, ltb}
-use lib.Ieee.{Float, binary64, fits, neg, lt}
+use lib.Dec.{ltb}
+use lib.Ieee.{Float, neg, lt}
 use Rattle.numbers.specs.Choice.{if_then_else_}
 use Rattle.numbers.specs.F64.{zero}
 use Rattle.numbers.specs.Near.{near}
@@ -32,16 +31,6 @@ arcOf a b = record { start = a; end = b; normal = orthogonalTo a b }
 
 abbrev pub reversed : MinorArc → MinorArc
 reversed a = record { start = a .end; end = a .start; normal = opposite (a .normal) }
-
--- a float of the format that is not -0.0, and a vector of them
-pub record Unsigned (x : Float) : Type 0 where
-  pub held : T (fits binary64 x)
-  pub signed : x ≡ neg zero → ⊥
-
-pub record UnsignedVec (v : Vec3) : Type 0 where
-  pub on-x : Unsigned (v .x)
-  pub on-y : Unsigned (v .y)
-  pub on-z : Unsigned (v .z)
 
 -- SCOPE 7: by the sign of the product with the normal; a NaN product is left
 unfoldable pub arcSide : MinorArc → Vec3 → Side

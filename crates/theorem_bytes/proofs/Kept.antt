@@ -24,7 +24,7 @@ use Rattle.chord_length.specs.declared.ChordLength.{ChordLength}
 use Rattle.chord_length.specs.Chords.{squared, negative, most, fromSquaredLength, chord, joined, sum, laterMax}
 use Rattle.cap.specs.declared.Cap.{Cap}
 use Rattle.cap.specs.Caps.{growth, quarter-circle, emptyOne, fullOne, sumOf, farther, farthestOf, grown, boundingCap}
-use Rattle.minor_arc.proofs.Clears.{clear-once}
+use Rattle.signs.proofs.Clears.{clear-once}
 use Rattle.ring_turns.specs.Turns.{edgeNormal}
 use Rattle.ring_corners.specs.Corners.{cornerAt, normalAt, ringOf, classesOf}
 use Rattle.ring_cut.specs.Cut.{Ring}

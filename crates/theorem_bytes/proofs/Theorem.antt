@@ -10,7 +10,7 @@ use lib.Ieee.Bits.{ofBits-fits}
 use borrow.Author.Tests.{eq-eqb, le-ltb}
 use Rattle.vec3.specs.Vec.{cleared}
 use Rattle.judge.specs.Judge.{faultOf}
-use Rattle.minor_arc.proofs.Clears.{clear-once}
+use Rattle.signs.proofs.Clears.{clear-once}
 use Rattle.loop_header.specs.Loops.{loopFault}
 use Rattle.loop_ask.specs.Questions.{queryFault}
 use Rattle.loop_distances.specs.Distances.{boundaryTold}

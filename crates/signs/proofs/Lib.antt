@@ -3,6 +3,6 @@ pub mod Rounding
 pub mod Adding
 pub mod Alikes
 pub mod Swapped
-pub mod Stores
+pub mod Opposites
 pub mod Tests
 pub mod Mirror

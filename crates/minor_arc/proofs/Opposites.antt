@@ -8,7 +8,7 @@ use Rattle.base.specs.declared.Side.{Side}
 use Rattle.base.specs.declared.Side.the-variants.{Left, Right, Collinear}
 use Rattle.base.specs.Sides.{sideOf}
 use Rattle.signs.specs.Mirrors.{Stored}
-use Rattle.signs.proofs.Opposites.{stable-stored, opposite-stored, opposite-back}
+use Rattle.signs.proofs.Stores.{stable-stored, opposite-stored, opposite-back}
 use Rattle.signs.proofs.Mirror.{left-mirrored}
 use Rattle.minor_arc.specs.declared.MinorArc.{MinorArc}
 use Rattle.minor_arc.specs.declared.Location.{Location}

@@ -3,6 +3,6 @@ pub mod Rounding
 pub mod Adding
 pub mod Alikes
 pub mod Swapped
-pub mod Opposites
+pub mod Stores
 pub mod Tests
 pub mod Mirror

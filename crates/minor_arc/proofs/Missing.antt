@@ -13,8 +13,8 @@ use Rattle.base.specs.Sides.{sideOf, settlesRight, settlesLeft}
 use Rattle.base.proofs.Settling.{settled-right, settled-left}
 use Rattle.signs.specs.Mirrors.{Stored}
 use Rattle.signs.proofs.Tests.{settles-right-level, settles-left-level}
-use Rattle.signs.proofs.Mirror.{dot-opposite}
 use Rattle.signs.proofs.Stores.{stable-stored, opposite-stored}
+use Rattle.signs.proofs.Mirror.{dot-opposite}
 use Rattle.minor_arc.specs.declared.MinorArc.{MinorArc}
 use Rattle.minor_arc.specs.declared.Location.the-variants.{Exterior}
 use Rattle.minor_arc.specs.declared.Meeting.{Meeting}

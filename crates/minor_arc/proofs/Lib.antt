@@ -1,2 +1,3 @@
 pub mod Clears
 pub mod Missing
+pub mod Opposites

@@ -39,7 +39,7 @@ both true true h = (refl, refl)
 both true false h = absurd (false≢true h)
 both false c h = absurd (false≢true h)
 
-nearer-stored : (s i : Vec3) → Stored i → Stored (nearer s i)
+pub nearer-stored : (s i : Vec3) → Stored i → Stored (nearer s i)
 unfolding nearer
 nearer-stored s i h = stored-if (lt zero (dot s i))
   where

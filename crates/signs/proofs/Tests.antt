@@ -54,7 +54,7 @@ above-flat (fin true zero e) = over-zero (pos 0) ∙ sym (over-minus 0 e)
 above-flat (fin false zero e) = over-zero (pos 0) ∙ sym (over-zero e)
 above-flat (fin s (suc m) e) = refl
 
-pub above-level : (x y : Float) → flat x ≡ flat y → lt F.zero x ≡ lt F.zero y
+above-level : (x y : Float) → flat x ≡ flat y → lt F.zero x ≡ lt F.zero y
 above-level x y h = sym (above-flat x) ∙ ap (λ (z : Float). lt F.zero z) h ∙ above-flat y
 
 -- above zero one way round is not so the other way round
@@ -114,7 +114,7 @@ module _ (k : ℕ) (d : ℤ) where
   small-flat (fin s zero e) = zero-small false (pos 0) ∙ sym (zero-small s e)
   small-flat (fin s (suc m) e) = refl
 
-  pub small-level : (x y : Float) → flat x ≡ flat y → small x ≡ small y
+  small-level : (x y : Float) → flat x ≡ flat y → small x ≡ small y
   small-level x y h = sym (small-flat x) ∙ ap small h ∙ small-flat y
 
   small-neg : (x : Float) → small (neg x) ≡ small x
@@ -125,7 +125,7 @@ module _ (k : ℕ) (d : ℤ) where
   small-neg (fin true (suc m) e) = rw (size-minus m e, size-plus (suc m) e) refl
   small-neg (fin false (suc m) e) = rw (size-minus m e, size-plus (suc m) e) refl
 
-  pub small-mirrored : (x y : Float) → flat x ≡ flat (neg y) → small x ≡ small y
+  small-mirrored : (x y : Float) → flat x ≡ flat (neg y) → small x ≡ small y
   small-mirrored x y h = small-level x (neg y) h ∙ small-neg y
 
   -- what is not small is above zero or below it
@@ -155,6 +155,9 @@ near-small x t = rw (stored (neg x) (neg-fits binary64 x t), epsilon-is) (small-
 
 pub near-mirrored : (x y : Float) → T (fits binary64 x) → T (fits binary64 y) → flat x ≡ flat (neg y) → near x F.zero ≡ near y F.zero
 near-mirrored x y s t h = near-small x s ∙ rw epsilon-is (small-mirrored 0 (negsuc 51) x y h) ∙ sym (near-small y t)
+
+pub ten-mirrored : (x y : Float) → flat x ≡ flat (neg y) → le (abs x) F.ten-epsilon ≡ le (abs y) F.ten-epsilon
+ten-mirrored x y h = rw ten-is (small-mirrored 4 (negsuc 50) x y h)
 
 -- ---- a product that settles its side alone
 ten-level : (x y : Float) → flat x ≡ flat y → le (abs x) F.ten-epsilon ≡ le (abs y) F.ten-epsilon

@@ -1,3 +1,4 @@
+-- A candidate that is not zero and misses the arc is disjoint in the mode; otherwise the edge is read and the relation is its own.
 use borrow.Author.Needs.{needs}
 use mathlib.Core.Path.{sym, _∙_}
 use Rattle.arc_relations.proofs.Missing.{missed-disjoint}
@@ -7,13 +8,28 @@ use Rattle.ring_pair.proofs.Clearing.{second-alone}
 use Rattle.ring_pair.proofs.relation_at.Statement.{statement}
 use Rattle.ring_pair.proofs.relation_at.Tie as tie
 
-pub relation-at-spec : {M : Type 1} → statement M
+returns : tie.Need-returns
 unfolding edgeAt candidateAt
+returns c =
+    let asked = c .before in
+    let compared = asked .before in
+    let clear = second-alone (compared .equals .result) (asked .misses .result) (c .if1 .taken) in
+    missed-disjoint _ _ _ (compared .before .before .before .pre .4) (sym (asked .misses .ensures) ∙ clear .1) (sym (compared .equals .ensures) ∙ clear .0)
+
+relate-at-requires : tie.Need-relate-at-requires
+unfolding edgeAt candidateAt
+relate-at-requires c κs =
+    let compared = c .before .before .before in
+    simp (c .edge .ensures) (compared .before .before .before .pre .4)
+
+returns-2 : tie.Need-returns-2
+returns-2 c = simp (c .relate-at .ensures, c .before .edge .ensures)
+
+pub relation-at-spec : {M : Type 1} → statement M
 relation-at-spec =
     tie.close
     (tie.spec (λ c κs. tt) (λ c κs. tt)
-    (λ c. let t = second-alone (c .before .before .equals .result) (c .before .misses .result) (c .if1 .taken) in
-    missed-disjoint _ _ _ (c .before .before .before .before .before .pre .4) (sym (c .before .misses .ensures) ∙ t .1) (sym (c .before .before .equals .ensures) ∙ t .0))
+    returns
     (λ c κs. search needs)
-    (λ c κs. simp (c .edge .ensures) (c .before .before .before .before .before .before .pre .4))
-    (λ c. simp (c .relate-at .ensures, c .before .edge .ensures)))
+    relate-at-requires
+    returns-2)

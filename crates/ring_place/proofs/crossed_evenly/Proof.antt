@@ -1,3 +1,4 @@
+-- Each iteration passes one block of edges, and `Iterate` is kept: what is counted so far and the edges left come to the whole count.
 use native.Mathlib.Omega.{arith}
 use Prim.Native.Nat.{_-_}
 use mathlib.Core.Path.{ap}
@@ -15,8 +16,22 @@ Inv-loop mode arc positions normals n s₀ from₀ s from = Iterate (pass mode a
 abbrev μ-loop : tie.MeasureT-loop
 μ-loop mode arc positions normals n s₀ from₀ s from = n - from
 
-pub crossed-evenly-spec : {M : Type 1} → statement M
+pass-block-requires : tie.Need-pass-block-requires Inv-loop μ-loop
+pass-block-requires c κs =
+    let block = c .block-end .ensures in
+    (omega (arith, block .1), omega (arith, block .2), block .3, omega arith, omega arith, omega arith)
+
+loop-again : tie.Need-loop-again Inv-loop μ-loop
+loop-again c =
+    let ended = c .before in
+    let block = ended .block-end .ensures in
+    iterate-part (ended .before .before .loop .inv) (c .pass-block .ensures) (omega (arith, block .1)) (block .3)
+
+returns : tie.Need-returns Inv-loop μ-loop
 unfolding crossedEvenly
+returns c = ap (λ (s : Crossings). s .even) (iterate-end (c .before .loop .inv) (omega arith))
+
+pub crossed-evenly-spec : {M : Type 1} → statement M
 crossed-evenly-spec =
     tie.close
     (tie.spec
@@ -24,8 +39,7 @@ crossed-evenly-spec =
     (λ c κs. tt)
     (λ c. iterate-begin (simp (c .new .ensures)))
     (λ c κs. (omega arith, omega arith))
-    (λ c κs. let e = c .block-end .ensures in (omega (arith, e .1), omega (arith, e .2), e .3, omega arith, omega arith, omega arith))
+    pass-block-requires
     (λ c. omega (arith, c .before .block-end .ensures .1))
-    (λ c. let e = c .before .block-end .ensures in
-    iterate-part (c .before .before .before .loop .inv) (c .pass-block .ensures) (omega (arith, e .1)) (e .3))
-    (λ c. ap (λ (s : Crossings). s .even) (iterate-end (c .before .loop .inv) (omega arith))))
+    loop-again
+    returns)

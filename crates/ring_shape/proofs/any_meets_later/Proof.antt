@@ -1,3 +1,4 @@
+-- Each iteration asks one edge, and `Any` is kept: no edge so far meets a later one, so what is left decides.
 use native.Mathlib.Omega.{arith}
 use borrow.Author.Needs.{needs}
 use Prim.Native.Nat.{_-_}
@@ -12,17 +13,30 @@ Inv-loop mode positions normals n end i₀ i = Any (meetsLater mode positions no
 abbrev μ-loop : tie.MeasureT-loop
 μ-loop mode positions normals n end i₀ i = n - 1 - i
 
-pub any-meets-later-spec : {M : Type 1} → statement M
+loop-holds : tie.Need-loop-holds Inv-loop μ-loop
 unfolding anyMeetsLater
+loop-holds c = any
+
+returns : tie.Need-returns Inv-loop μ-loop
+returns c =
+    let asked = c .before in
+    any-hit (asked .before .before .loop .inv) (asked .meets-later .ensures) (omega arith) (c .if1 .taken)
+
+loop-again : tie.Need-loop-again Inv-loop μ-loop
+loop-again c =
+    let asked = c .before in
+    any-on (asked .before .before .loop .inv) (asked .meets-later .ensures) (omega arith) (c .if1 .left)
+
+pub any-meets-later-spec : {M : Type 1} → statement M
 any-meets-later-spec =
     tie.close
     (tie.spec
     Inv-loop μ-loop
     (λ c. search needs)
-    (λ c. any)
+    loop-holds
     (λ c κs. search needs)
-    (λ c. any-hit (c .before .before .before .loop .inv) (c .before .meets-later .ensures) (omega arith) (c .if1 .taken))
+    returns
     (λ c. search needs)
     (λ c. search needs)
-    (λ c. any-on (c .before .before .before .loop .inv) (c .before .meets-later .ensures) (omega arith) (c .if1 .left))
+    loop-again
     (λ c. any-end (c .before .loop .inv) (omega arith)))

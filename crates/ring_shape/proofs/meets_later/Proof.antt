@@ -1,3 +1,4 @@
+-- Each iteration asks one later edge, and `Any` is kept: none so far is met, so what is left decides.
 use native.Mathlib.Omega.{arith}
 use borrow.Author.Needs.{needs}
 use Prim.Native.Nat.{_-_}
@@ -12,18 +13,31 @@ Inv-loop mode positions normals n i end j₀ j = Any (edgesMeet mode positions n
 abbrev μ-loop : tie.MeasureT-loop
 μ-loop mode positions normals n i end j₀ j = end - j
 
-pub meets-later-spec : {M : Type 1} → statement M
+loop-holds : tie.Need-loop-holds Inv-loop μ-loop
 unfolding meetsLater
+loop-holds c = record { within = omega arith; rest = simp (c .end-of .ensures .0) }
+
+returns : tie.Need-returns Inv-loop μ-loop
+returns c =
+    let asked = c .before in
+    any-hit (asked .before .before .loop .inv) (asked .edges-meet .ensures) (omega arith) (c .if1 .taken)
+
+loop-again : tie.Need-loop-again Inv-loop μ-loop
+loop-again c =
+    let asked = c .before in
+    any-on (asked .before .before .loop .inv) (asked .edges-meet .ensures) (omega arith) (c .if1 .left)
+
+pub meets-later-spec : {M : Type 1} → statement M
 meets-later-spec =
     tie.close
     (tie.spec
     Inv-loop μ-loop
     (λ c κs. search needs)
     (λ c. search needs)
-    (λ c. record { within = omega arith; rest = simp (c .end-of .ensures .0) })
+    loop-holds
     (λ c κs. search needs)
-    (λ c. any-hit (c .before .before .before .loop .inv) (c .before .edges-meet .ensures) (omega arith) (c .if1 .taken))
+    returns
     (λ c. search needs)
     (λ c. search needs)
-    (λ c. any-on (c .before .before .before .loop .inv) (c .before .edges-meet .ensures) (omega arith) (c .if1 .left))
+    loop-again
     (λ c. any-end (c .before .loop .inv) (omega arith)))

@@ -1,13 +1,21 @@
+-- Collinear where the vector at hand is zero, otherwise by the points that the mode tries.
 use Rattle.minor_arc.specs.Arcs.{meetingOf}
 use Rattle.minor_arc.proofs.MinorArc.meeting_at.Statement.{statement}
 use Rattle.minor_arc.proofs.MinorArc.meeting_at.Tie as tie
 
-pub meeting-at-spec : {M : Type 1} → statement M
+returns : tie.Need-returns
 unfolding meetingOf
-meeting-at-spec =
-    tie.close
-    (tie.spec (λ c κs. tt) (λ c κs. tt) (λ c κs. tt)
-    (λ c. simp (← c .before .before .pre, ← c .before .equals .ensures, c .if1 .taken))
-    (λ c.
-    let e = c .before .before in
-    simp (← e .before .before .pre, ← e .before .equals .ensures, e .if1 .left, ← c .before .nearer .ensures) (c .tried .ensures)))
+returns c =
+    let asked = c .before in
+    simp (← asked .before .pre, ← asked .equals .ensures, c .if1 .taken)
+
+returns-2 : tie.Need-returns-2
+unfolding meetingOf
+returns-2 c =
+    let chosen = c .before in
+    let other = chosen .before in
+    let asked = other .before in
+    simp (← asked .before .pre, ← asked .equals .ensures, other .if1 .left, ← chosen .nearer .ensures) (c .tried .ensures)
+
+pub meeting-at-spec : {M : Type 1} → statement M
+meeting-at-spec = tie.close (tie.spec (λ c κs. tt) (λ c κs. tt) (λ c κs. tt) returns returns-2)

@@ -1,4 +1,4 @@
--- SCOPE 32: a loop in bytes: 88 of a header, 24n of positions, 24n of normals, n of classes; unknown mark bits and the four zero bytes are passed over.
+-- SCOPE 32: a loop in bytes: 88 of a header, 24n of positions, 24n of normals, n of classes; marks above 15 and the four zero bytes are passed over.
 -- SCOPE 34: a state byte above 2 or a length that does not agree is refusal 1. Definitions only.
 use Prim.Native.Nat.{ℕ, _+_, _-_, _*_, _/_, _%_, _≤_}
 use mathlib.Core.Path.{_≡_}
@@ -15,6 +15,8 @@ use Rattle.chord_length.specs.Chords.{squared}
 use Rattle.cap.specs.declared.Cap.{Cap}
 use Rattle.vec3.specs.declared.Insides.{Insides}
 use Rattle.vec3.specs.declared.Insides.the-variants.{Absent, Two}
+use Rattle.minor_arc.specs.declared.Mode.{Mode}
+use Rattle.minor_arc.specs.declared.Mode.the-variants.{Plain, Long}
 use Rattle.loop_header.specs.declared.State.{State}
 use Rattle.loop_header.specs.declared.State.the-variants.{Empty, Full, Ring}
 use Rattle.loop_header.specs.declared.Header.{Header}
@@ -58,6 +60,11 @@ capAt s = record { centre = vecOf s 8; radius = squared (floatOf s 32) }
 unfoldable pub insidesAt : List ℕ → Insides
 insidesAt s = if marked (marksAt s) 4 then Two (vecOf s 40) (vecOf s 64) else Absent
 
+-- SCOPE 57: mark 8 says long
+abbrev pub modeOf : Bool → Mode
+modeOf true = Long
+modeOf false = Plain
+
 abbrev pub headerAt : List ℕ → Header
 headerAt s = record {
   count = countAt s;
@@ -66,6 +73,7 @@ headerAt s = record {
   insides = insidesAt s;
   reversed = marked (marksAt s) 1;
   weak = marked (marksAt s) 2;
+  mode = modeOf (marked (marksAt s) 8);
 }
 
 -- ---- the rest of a loop
@@ -124,8 +132,13 @@ abbrev pub secondInside : Insides → Vec3
 secondInside Absent = origin
 secondInside (Two a b) = b
 
+abbrev pub isLong : Mode → Bool
+isLong Plain = false
+isLong Long = true
+
+-- SCOPE 57: 1 reversed, 2 weak, 4 insides, 8 long
 abbrev pub marksOf : Header → ℕ
-marksOf h = markIf (h .reversed) 1 + markIf (h .weak) 2 + markIf (areThere (h .insides)) 4
+marksOf h = markIf (h .reversed) 1 + markIf (h .weak) 2 + markIf (areThere (h .insides)) 4 + markIf (isLong (h .mode)) 8
 
 abbrev pub frontBytes : ℕ → ℕ → ℕ → List ℕ
 frontBytes count code marks = bytes2 count ++ (code ∷ marks ∷ 0 ∷ 0 ∷ 0 ∷ 0 ∷ [])

@@ -10,6 +10,7 @@ use cap::Cap;
 use chord_length::ChordLength;
 use loop_header::Header;
 use loop_header::State;
+use minor_arc::Mode;
 use vec3::Insides;
 use vec3::Vec3;
 
@@ -35,7 +36,7 @@ fn state_of(code: u8) -> State
     State::Ring
 }
 
-// Whether a mark is among the marks: 1 reversed, 2 weak, 4 insides present.
+// Whether a mark is among the marks: 1 reversed, 2 weak, 4 insides present, 8 long.
 fn has_mark(marks: u8, mark: u8) -> bool
     requires { ⌜ 0 < mark ⌝ }
     ensures { λ r. ⌜ r ≡ F.marked marks mark ⌝ }
@@ -72,6 +73,13 @@ pub fn count_at(s: &[u8]) -> usize
     wire::u16_at(s, 0) as usize
 }
 
+// The mode, by whether mark 8 is there.
+fn mode_of(long: bool) -> Mode
+    ensures { λ r. ⌜ r ≡ F.modeOf long ⌝ }
+{
+    if long { Mode::Long } else { Mode::Plain }
+}
+
 // The header that the bytes begin with.
 pub fn header_at(s: &[u8]) -> Header
     requires { ⌜ F.headerSize ≤ length (now s) ⌝ }
@@ -83,6 +91,7 @@ pub fn header_at(s: &[u8]) -> Header
     let insides = insides_at(s);
     let reversed = has_mark(s[3], 1);
     let weak = has_mark(s[3], 2);
+    let mode = mode_of(has_mark(s[3], 8));
     Header {
         count,
         state,
@@ -90,6 +99,7 @@ pub fn header_at(s: &[u8]) -> Header
         insides,
         reversed,
         weak,
+        mode,
     }
 }
 
@@ -231,13 +241,24 @@ fn second_inside(i: Insides) -> Vec3
     }
 }
 
+fn is_long(mode: Mode) -> bool
+    ensures { λ r. ⌜ r ≡ F.isLong mode ⌝ }
+{
+    match mode {
+        Mode::Plain => false,
+        Mode::Long => true,
+    }
+}
+
 fn marks_of(h: Header) -> u8
     ensures { λ r. ⌜ r ≡ F.marksOf h ⌝ }
 {
     let insides = h.insides;
+    let mode = h.mode;
     let a = mark_if(h.reversed, 1);
     let b = mark_if(h.weak, 2);
-    a + b + mark_if(are_there(insides), 4)
+    let c = mark_if(are_there(insides), 4);
+    a + b + c + mark_if(is_long(mode), 8)
 }
 
 fn put_pair(out: &mut [u8], at: usize, a: u8, b: u8)

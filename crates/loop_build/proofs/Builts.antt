@@ -19,6 +19,7 @@ use Rattle.laws.proofs.Firsts.{firstOf-zero, firstOf-fine}
 use Rattle.vec3.specs.declared.Vec3.{Vec3}
 use Rattle.vec3.specs.Vec.{posAt, coords, vec}
 use Rattle.judge.specs.Judge.{positionFault, positionsFault}
+use Rattle.minor_arc.specs.declared.Mode.{Mode}
 use Rattle.signs.proofs.Clears.{clear-once}
 use Rattle.ring_corners.specs.Corners.{cornerSource, cornerAt, classBy, classAt, ringOf, classesOf}
 use Rattle.vec3.proofs.Arrays.{size, raw-written}
@@ -92,9 +93,9 @@ module _ (l : List Float) (d : Doubles l) (f : listFault l ≡ 0) (reversed : Bo
   pub positions-fine : positionsFault (ringOf l n reversed) n ≡ 0
   positions-fine = firstOf-fine (positionFault (ringOf l n reversed)) n 0 position-fine
 
-  pub built-cuttable : 3 ≤ n → cutFault (ringHeader l n reversed) (ringOf l n reversed) (classesOf l n reversed) ≡ 0
+  pub built-cuttable : (mode : Mode) → 3 ≤ n → cutFault (ringHeader mode l n reversed) (ringOf l n reversed) (classesOf l n reversed) ≡ 0
   unfolding cutFault shapeFault threesOf ringFault ringHeader
-  built-cuttable h =
+  built-cuttable mode h =
       let s = size (cornerAt l n reversed) n in
       let q = codes-count l n reversed in
       rw (le-leb 3 n h, eq-eqb _ _ s, eq-eqb _ _ q, le-ltb 512 n (omega (arith, known .small, o)), codes-fine l n reversed) positions-fine

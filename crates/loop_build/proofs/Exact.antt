@@ -8,6 +8,7 @@ use lib.Dec.{eqb, leb, ltb}
 use lib.Ieee.{Float}
 use borrow.Author.Tests.{eqb-true, eqb-false, eq-eqb, ne-eqb, leb-true, leb-false, le-leb, lt-leb, ltb-true, ltb-false, lt-ltb, le-ltb}
 use Rattle.laws.specs.Loop.{first}
+use Rattle.minor_arc.specs.declared.Mode.{Mode}
 use Rattle.judge.specs.Judge.{positionsFault}
 use Rattle.judge.specs.Why.{Exactly, Refuses, PositionsWhy}
 use Rattle.judge.proofs.Exactly.{exactly, then-exact, refuses}
@@ -75,14 +76,14 @@ module _ (l ps ns : List Float) (cs : List ℕ) where
   pub why-given : (k : ℕ) → BuildWhy l ps ns cs k → refusal l ps ns cs ≡ k
   why-given = number-exact .why-given
 
-  some-loop : (b : Bool) (n : ℕ) → number (outcomeIf b l n ps ns cs .answer) ≡ 0
+  some-loop : (b : Bool) (mode : Mode) (n : ℕ) → number (outcomeIf b mode l n ps ns cs .answer) ≡ 0
   unfolding number
-  some-loop true n = refl
-  some-loop false n = refl
+  some-loop true mode n = refl
+  some-loop false mode n = refl
 
   pub exact : Exact l ps ns cs
   unfolding number buildOutcome
   exact = record {
     number = number-exact;
-    building = refuses refused number (λ k. refl) number-exact (λ z. rw z (some-loop (ltb (openedCount l) 3) (openedCount l))) (λ k e. rw e);
+    building = λ mode. refuses refused number (λ k. refl) number-exact (λ z. rw z (some-loop (ltb (openedCount l) 3) mode (openedCount l))) (λ k e. rw e);
   }

@@ -6,19 +6,20 @@ use native.Mathlib.Omega.{arith}
 use lib.ListN.{length}
 use lib.Ieee.{Float}
 use borrow.Author.Tests.{lt-ltb, le-ltb}
+use Rattle.minor_arc.specs.declared.Mode.{Mode}
 use Rattle.loop_header.specs.declared.Header.{Header}
 use Rattle.loop_header.specs.Loops.{emptyHeader}
 use Rattle.loop_build.specs.Build.{refused, loop, openedCount, refusal, Lent, made, kept, outcomeOf, outcomeBy, buildOutcome}
 use Rattle.loop_build.proofs.Rooms.{Listed, list-fine, room, fine}
 
-by-refused : (k : ℕ) (l ps ns : List Float) (cs : List ℕ) → (k ≡ 0 → ⊥) → kept (refused k) ps ns cs ≡ outcomeBy k l ps ns cs
-by-refused zero l ps ns cs h = absurd (h refl)
-by-refused (suc k) l ps ns cs h = refl
+by-refused : (k : ℕ) (mode : Mode) (l ps ns : List Float) (cs : List ℕ) → (k ≡ 0 → ⊥) → kept (refused k) ps ns cs ≡ outcomeBy k mode l ps ns cs
+by-refused zero mode l ps ns cs h = absurd (h refl)
+by-refused (suc k) mode l ps ns cs h = refl
 
 module _ (l ps ns : List Float) (cs : List ℕ) where
-  pub was-refused : {k : ℕ} → (k ≡ 0 → ⊥) → k ≡ refusal l ps ns cs → kept (refused k) ps ns cs ≡ buildOutcome l ps ns cs
+  pub was-refused : (mode : Mode) {k : ℕ} → (k ≡ 0 → ⊥) → k ≡ refusal l ps ns cs → kept (refused k) ps ns cs ≡ buildOutcome mode l ps ns cs
   unfolding buildOutcome
-  was-refused {k} h e = rw (← e) (by-refused k l ps ns cs h)
+  was-refused mode {k} h e = rw (← e) (by-refused k mode l ps ns cs h)
 
   module _ {k n : ℕ} (e : k ≡ refusal l ps ns cs) (z : k ≡ 0) (o : n ≡ openedCount l) where
     none : refusal l ps ns cs ≡ 0
@@ -30,9 +31,9 @@ module _ (l ps ns : List Float) (cs : List ℕ) where
     pub small : n ≤ 512
     small = omega (arith, listed .small, o)
 
-    pub nothing-left : {h : Header} → h ≡ emptyHeader → n < 3 → kept (loop h) ps ns cs ≡ buildOutcome l ps ns cs
+    pub nothing-left : (mode : Mode) {h : Header} → h ≡ emptyHeader mode → n < 3 → kept (loop h) ps ns cs ≡ buildOutcome mode l ps ns cs
     unfolding buildOutcome
-    nothing-left q h = rw (none, ← o, lt-ltb _ _ h, q)
+    nothing-left mode q h = rw (none, ← o, lt-ltb _ _ h, q)
 
     pub lent : {a b : ℕ} → 3 ≤ n → a ≡ 3 * n → b ≡ n → Lent l n a b (length ps) (length ns) (length cs)
     lent h p q =
@@ -48,11 +49,11 @@ module _ (l ps ns : List Float) (cs : List ℕ) where
           classes-room = r .for-classes;
         }
 
-    pub looped : {h : Header} {ps′ ns′ : List Float} {cs′ : List ℕ} → 3 ≤ n
-        → record { header = h; positions = ps′; normals = ns′; classes = cs′ } ≡ made l n ps ns cs
-        → record { answer = loop h; positions = ps′; normals = ns′; classes = cs′ } ≡ buildOutcome l ps ns cs
+    pub looped : (mode : Mode) {h : Header} {ps′ ns′ : List Float} {cs′ : List ℕ} → 3 ≤ n
+        → record { header = h; positions = ps′; normals = ns′; classes = cs′ } ≡ made mode l n ps ns cs
+        → record { answer = loop h; positions = ps′; normals = ns′; classes = cs′ } ≡ buildOutcome mode l ps ns cs
     unfolding buildOutcome
-    looped g q = rw (none, ← o, le-ltb _ _ g) (ap outcomeOf q)
+    looped mode g q = rw (none, ← o, le-ltb _ _ g) (ap outcomeOf q)
 
 -- the same with work arrays of the sizes asked
 pub lent-with : {l : List Float} {n a b p q r : ℕ} → Lent l n (3 * n) n p q r → a ≡ 3 * n → b ≡ n → Lent l n a b p q r

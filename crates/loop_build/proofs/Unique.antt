@@ -24,4 +24,4 @@ told-apart = by-back told back there-and-back
 pub build-unique : One Building.Kinds.ps Building.Kinds.r Building.Reads.Post
 build-unique κs a x y v w p q =
     let e = p ∙ sym q in
-    (told-apart x y (ap (λ (o : Outcome). o .answer) e), ap (λ (o : Outcome). (tt, (o .positions, (o .normals, (o .classes, tt))))) e)
+    (told-apart x y (ap (λ (o : Outcome). o .answer) e), ap (λ (o : Outcome). (tt, (tt, (o .positions, (o .normals, (o .classes, tt)))))) e)

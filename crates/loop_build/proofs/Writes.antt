@@ -17,6 +17,7 @@ use Rattle.ring_corners.specs.Corners.{cornerAt, classAt, reversal, ringOf, nor
 use Rattle.vec3.proofs.Arrays.{size}
 use Rattle.vec3.specs.declared.Insides.{Insides}
 use Rattle.ring_cut.specs.Cut.{Ring}
+use Rattle.minor_arc.specs.declared.Mode.{Mode}
 use Rattle.loop_header.specs.declared.Header.{Header}
 use Rattle.loop_header.specs.declared.State.the-variants as S
 use Rattle.loop_header.specs.Loops.{fullHeader}
@@ -75,16 +76,16 @@ module _ (l : List Float) (n : ℕ) {s : Angle} {edges : List Float} {codes : Li
     classes-room = d .classes-room;
   }
 
-  module _ (ps ns : List Float) (cs : List ℕ) where
-    pub full-made : {b w : Bool} {h : Header} → b ≡ allBoth codes → b ≡ true → w ≡ weak s → h ≡ fullHeader w
-        → record { header = h; positions = ps; normals = ns; classes = cs } ≡ made l n ps ns cs
+  module _ (mode : Mode) (ps ns : List Float) (cs : List ℕ) where
+    pub full-made : {b w : Bool} {h : Header} → b ≡ allBoth codes → b ≡ true → w ≡ weak s → h ≡ fullHeader mode w
+        → record { header = h; positions = ps; normals = ns; classes = cs } ≡ made mode l n ps ns cs
     unfolding made
     full-made p t q r = rw (← codes-are, ← p, t, r, q, sum-is)
 
     pub ring-made : {b c w : Bool} {i : Insides} {ps′ ns′ : List Float} {cs′ : List ℕ} {cap : Cap}
         → b ≡ allBoth codes → b ≡ false → c ≡ clockwise s → record { insides = i; positions = ps′; normals = ns′; classes = cs′ } ≡ written l n (not c) ps ns cs
         → cap ≡ boundingCap l n → w ≡ weak s
-        → record { header = record { count = n; state = S.Ring; cap = cap; insides = i; reversed = not c; weak = w }; positions = ps′; normals = ns′; classes = cs′ } ≡ made l n ps ns cs
+        → record { header = record { count = n; state = S.Ring; cap = cap; insides = i; reversed = not c; weak = w; mode = mode }; positions = ps′; normals = ns′; classes = cs′ } ≡ made mode l n ps ns cs
     unfolding made ringHeader
     ring-made p f h q g k =
         let t = turned h in

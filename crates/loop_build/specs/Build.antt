@@ -1,4 +1,4 @@
--- What building a loop answers, and what it leaves in the slices that it was lent (SCOPE 11 to 15). Definitions only.
+-- What building a loop answers, and what it leaves in the slices that it was lent (SCOPE 11 to 15, 54). Definitions only.
 use Prim.Native.Nat.{ℕ, zero, suc, _*_, _/_, _%_, _≤_, _<_}
 use mathlib.Core.Path.{_≡_}
 use mathlib.Core.Bool.{Bool, true, false, _&&_, _||_, cond}
@@ -10,6 +10,7 @@ use Rattle.laws.specs.Loop.{first}
 use Rattle.angle.specs.declared.Angle.{Angle}
 use Rattle.angle.specs.Angles.{weak}
 use Rattle.cap.specs.Caps.{boundingCap}
+use Rattle.minor_arc.specs.declared.Mode.{Mode}
 use Rattle.judge.specs.Judge.{positionsFault}
 use Rattle.ring_turns.specs.Turns.{edgeNormals, turnSum}
 use Rattle.ring_corners.specs.Corners.{opened, reversal, ringOf, normalsOf, classesOf, allBoth}
@@ -56,15 +57,17 @@ prepared l n = record { sum = turnSum l n; edges = edgeNormals l n; classes = cl
 unfoldable pub insidesFor : List Float → List ℕ → Insides
 insidesFor ps cs = cond (ltb 3 (length cs)) (insidesOf ps cs) Absent
 
--- a ring's header. SCOPE 14: the cap is that of the opened list in the order given, before any reversal
-unfoldable pub ringHeader : List Float → ℕ → Bool → Header
-ringHeader l n reversed = record {
+-- a ring's header. SCOPE 14: the cap is that of the opened list in the order given, before any reversal. SCOPE 54: the mode is stored; SCOPE 55: nothing
+-- else of building goes by it
+unfoldable pub ringHeader : Mode → List Float → ℕ → Bool → Header
+ringHeader mode l n reversed = record {
   count = n;
   state = Ring;
   cap = boundingCap l n;
   insides = insidesFor (ringOf l n reversed) (classesOf l n reversed);
   reversed = reversed;
   weak = weak (turnSum l n);
+  mode = mode;
 }
 
 -- what the writing of a ring is handed: what was prepared, and room
@@ -111,21 +114,21 @@ pub record Made : Type 0 where
   pub normals : List Float
   pub classes : List ℕ
 
-abbrev pub ringMade : List Float → ℕ → Bool → List Float → List Float → List ℕ → Made
-ringMade l n reversed ps ns cs = record {
-  header = ringHeader l n reversed;
+abbrev pub ringMade : Mode → List Float → ℕ → Bool → List Float → List Float → List ℕ → Made
+ringMade mode l n reversed ps ns cs = record {
+  header = ringHeader mode l n reversed;
   positions = ringOf l n reversed ++ drop (3 * n) ps;
   normals = normalsOf l n reversed ++ drop (3 * n) ns;
   classes = classesOf l n reversed ++ drop n cs;
 }
 
 -- SCOPE 13, 27: where all classes are both the loop is FULL, and the slices are as they were
-abbrev pub madeIf : Bool → List Float → ℕ → Bool → List Float → List Float → List ℕ → Made
-madeIf true l n reversed ps ns cs = record { header = fullHeader (weak (turnSum l n)); positions = ps; normals = ns; classes = cs }
-madeIf false l n reversed ps ns cs = ringMade l n reversed ps ns cs
+abbrev pub madeIf : Bool → Mode → List Float → ℕ → Bool → List Float → List Float → List ℕ → Made
+madeIf true mode l n reversed ps ns cs = record { header = fullHeader mode (weak (turnSum l n)); positions = ps; normals = ns; classes = cs }
+madeIf false mode l n reversed ps ns cs = ringMade mode l n reversed ps ns cs
 
-unfoldable pub made : List Float → ℕ → List Float → List Float → List ℕ → Made
-made l n ps ns cs = madeIf (allBoth (classesOf l n (reversal l n))) l n (reversal l n) ps ns cs
+unfoldable pub made : Mode → List Float → ℕ → List Float → List Float → List ℕ → Made
+made mode l n ps ns cs = madeIf (allBoth (classesOf l n (reversal l n))) mode l n (reversal l n) ps ns cs
 
 -- SCOPE 27: the answer by cases, the refusal's number or the header's values
 pub data Told : Type 0 where
@@ -150,14 +153,14 @@ abbrev pub outcomeOf : Made → Outcome
 outcomeOf m = record { answer = loop (m .header); positions = m .positions; normals = m .normals; classes = m .classes }
 
 -- SCOPE 11: with fewer than three left the loop is EMPTY
-abbrev pub outcomeIf : Bool → List Float → ℕ → List Float → List Float → List ℕ → Outcome
-outcomeIf true l n ps ns cs = kept (loop emptyHeader) ps ns cs
-outcomeIf false l n ps ns cs = outcomeOf (made l n ps ns cs)
+abbrev pub outcomeIf : Bool → Mode → List Float → ℕ → List Float → List Float → List ℕ → Outcome
+outcomeIf true mode l n ps ns cs = kept (loop (emptyHeader mode)) ps ns cs
+outcomeIf false mode l n ps ns cs = outcomeOf (made mode l n ps ns cs)
 
 -- by the refusal's number
-abbrev pub outcomeBy : ℕ → List Float → List Float → List Float → List ℕ → Outcome
-outcomeBy (suc k) l ps ns cs = kept (refused (suc k)) ps ns cs
-outcomeBy zero l ps ns cs = outcomeIf (ltb (openedCount l) 3) l (openedCount l) ps ns cs
+abbrev pub outcomeBy : ℕ → Mode → List Float → List Float → List Float → List ℕ → Outcome
+outcomeBy (suc k) mode l ps ns cs = kept (refused (suc k)) ps ns cs
+outcomeBy zero mode l ps ns cs = outcomeIf (ltb (openedCount l) 3) mode l (openedCount l) ps ns cs
 
-unfoldable pub buildOutcome : List Float → List Float → List Float → List ℕ → Outcome
-buildOutcome l ps ns cs = outcomeBy (refusal l ps ns cs) l ps ns cs
+unfoldable pub buildOutcome : Mode → List Float → List Float → List Float → List ℕ → Outcome
+buildOutcome mode l ps ns cs = outcomeBy (refusal l ps ns cs) mode l ps ns cs

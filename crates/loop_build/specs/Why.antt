@@ -4,6 +4,7 @@ use mathlib.Core.Path.{_≡_}
 use mathlib.Core.List.{List}
 use lib.ListN.{length}
 use lib.Ieee.{Float}
+use Rattle.minor_arc.specs.declared.Mode.{Mode}
 use Rattle.judge.specs.Why.{Exactly, Refuses, Then, PositionsWhy}
 use Rattle.loop_build.specs.Build.{openedCount, refusal, refused, buildOutcome}
 
@@ -28,7 +29,7 @@ pub data RoomWhy (n positions normals classes : ℕ) : ℕ → Type 0 where
 abbrev pub BuildWhy : List Float → List Float → List Float → List ℕ → ℕ → Type 0
 BuildWhy l ps ns cs = Then (ListWhy l) (RoomWhy (openedCount l) (length ps) (length ns) (length cs))
 
--- ---- SCOPE 25: each is given exactly when, as a number and by `build`
+-- ---- SCOPE 25: each is given exactly when, as a number and by `build`, in either mode alike
 pub record Exact (l ps ns : List Float) (cs : List ℕ) : Type 0 where
   pub number : Exactly (refusal l ps ns cs) (BuildWhy l ps ns cs)
-  pub building : Refuses refused (buildOutcome l ps ns cs .answer) (BuildWhy l ps ns cs)
+  pub building : (mode : Mode) → Refuses refused (buildOutcome mode l ps ns cs .answer) (BuildWhy l ps ns cs)

@@ -7,6 +7,7 @@ ghost use Rattle.loop_build.specs.Build as B;
 use angle::Angle;
 use loop_header::Header;
 use loop_header::State;
+use minor_arc::Mode;
 use vec3::Insides;
 
 pub enum Built {
@@ -98,6 +99,7 @@ fn write_ring(
 
 // The loop of an opened list of three or more, with lent work arrays: nothing is written before FULL is ruled out.
 fn make(
+    mode: Mode,
     list: &[f64],
     n: usize,
     edges: &mut [f64],
@@ -107,11 +109,11 @@ fn make(
     classes: &mut [u8],
 ) -> Header
     requires { ⌜ B.Lent (now list) n (length (now edges)) (length (now codes)) (length (now positions)) (length (now normals)) (length (now classes)) ⌝ }
-    ensures { λ r. ⌜ record { header = r; positions = now (positions .exit); normals = now (normals .exit); classes = now (classes .exit) } ≡ B.made (now (list .entry)) n (now (positions .entry)) (now (normals .entry)) (now (classes .entry)) ⌝ }
+    ensures { λ r. ⌜ record { header = r; positions = now (positions .exit); normals = now (normals .exit); classes = now (classes .exit) } ≡ B.made mode (now (list .entry)) n (now (positions .entry)) (now (normals .entry)) (now (classes .entry)) ⌝ }
 {
     let sum = prepare(list, n, edges, codes);
     if ring_corners::all_both(codes) {
-        return loop_header::full(sum.is_weak());
+        return loop_header::full(mode, sum.is_weak());
     }
     let reversed = !sum.is_clockwise();
     let insides = write_ring(list, edges, codes, n, reversed, positions, normals, classes);
@@ -122,11 +124,13 @@ fn make(
         insides,
         reversed,
         weak: sum.is_weak(),
+        mode,
     }
 }
 
 // `make` with work arrays for the largest ring: they hold what must not be written before FULL is ruled out.
 fn make_large(
+    mode: Mode,
     list: &[f64],
     n: usize,
     positions: &mut [f64],
@@ -134,12 +138,13 @@ fn make_large(
     classes: &mut [u8],
 ) -> Header
     requires { ⌜ B.Lent (now list) n (3 * n) n (length (now positions)) (length (now normals)) (length (now classes)) ⌝ }
-    ensures { λ r. ⌜ record { header = r; positions = now (positions .exit); normals = now (normals .exit); classes = now (classes .exit) } ≡ B.made (now (list .entry)) n (now (positions .entry)) (now (normals .entry)) (now (classes .entry)) ⌝ }
+    ensures { λ r. ⌜ record { header = r; positions = now (positions .exit); normals = now (normals .exit); classes = now (classes .exit) } ≡ B.made mode (now (list .entry)) n (now (positions .entry)) (now (normals .entry)) (now (classes .entry)) ⌝ }
 {
     let size = 3 * n;
     let mut edges = [0.0f64; 1536];
     let mut codes = [0u8; 512];
     make(
+        mode,
         list,
         n,
         &mut edges[..size],
@@ -152,6 +157,7 @@ fn make_large(
 
 // `make` with small work arrays, as clearing large ones would cost a small ring more than its edges.
 fn make_small(
+    mode: Mode,
     list: &[f64],
     n: usize,
     positions: &mut [f64],
@@ -159,12 +165,13 @@ fn make_small(
     classes: &mut [u8],
 ) -> Header
     requires { ⌜ B.Lent (now list) n (3 * n) n (length (now positions)) (length (now normals)) (length (now classes)) × (n ≤ 16) ⌝ }
-    ensures { λ r. ⌜ record { header = r; positions = now (positions .exit); normals = now (normals .exit); classes = now (classes .exit) } ≡ B.made (now (list .entry)) n (now (positions .entry)) (now (normals .entry)) (now (classes .entry)) ⌝ }
+    ensures { λ r. ⌜ record { header = r; positions = now (positions .exit); normals = now (normals .exit); classes = now (classes .exit) } ≡ B.made mode (now (list .entry)) n (now (positions .entry)) (now (normals .entry)) (now (classes .entry)) ⌝ }
 {
     let size = 3 * n;
     let mut edges = [0.0f64; 48];
     let mut codes = [0u8; 16];
     make(
+        mode,
         list,
         n,
         &mut edges[..size],
@@ -177,6 +184,7 @@ fn make_small(
 
 // `make` with work arrays of its own.
 fn make_with(
+    mode: Mode,
     list: &[f64],
     n: usize,
     positions: &mut [f64],
@@ -184,17 +192,23 @@ fn make_with(
     classes: &mut [u8],
 ) -> Header
     requires { ⌜ B.Lent (now list) n (3 * n) n (length (now positions)) (length (now normals)) (length (now classes)) ⌝ }
-    ensures { λ r. ⌜ record { header = r; positions = now (positions .exit); normals = now (normals .exit); classes = now (classes .exit) } ≡ B.made (now (list .entry)) n (now (positions .entry)) (now (normals .entry)) (now (classes .entry)) ⌝ }
+    ensures { λ r. ⌜ record { header = r; positions = now (positions .exit); normals = now (normals .exit); classes = now (classes .exit) } ≡ B.made mode (now (list .entry)) n (now (positions .entry)) (now (normals .entry)) (now (classes .entry)) ⌝ }
 {
     if n <= 16 {
-        return make_small(list, n, positions, normals, classes);
+        return make_small(mode, list, n, positions, normals, classes);
     }
-    make_large(list, n, positions, normals, classes)
+    make_large(mode, list, n, positions, normals, classes)
 }
 
-// Builds a loop.
-pub fn build(list: &[f64], positions: &mut [f64], normals: &mut [f64], classes: &mut [u8]) -> Built
-    ensures { λ r. ⌜ record { answer = B.told r; positions = now (positions .exit); normals = now (normals .exit); classes = now (classes .exit) } ≡ B.buildOutcome (now (list .entry)) (now (positions .entry)) (now (normals .entry)) (now (classes .entry)) ⌝ }
+// Builds a loop: the mode is stored in its header, and nothing else of building goes by it.
+pub fn build(
+    mode: Mode,
+    list: &[f64],
+    positions: &mut [f64],
+    normals: &mut [f64],
+    classes: &mut [u8],
+) -> Built
+    ensures { λ r. ⌜ record { answer = B.told r; positions = now (positions .exit); normals = now (normals .exit); classes = now (classes .exit) } ≡ B.buildOutcome mode (now (list .entry)) (now (positions .entry)) (now (normals .entry)) (now (classes .entry)) ⌝ }
 {
     let f = refusal_of(list, positions, normals, classes);
     if f != 0 {
@@ -202,7 +216,7 @@ pub fn build(list: &[f64], positions: &mut [f64], normals: &mut [f64], classes: 
     }
     let n = ring_corners::opened(list, list.len() / 3);
     if n < 3 {
-        return Built::Loop(loop_header::empty());
+        return Built::Loop(loop_header::empty(mode));
     }
-    Built::Loop(make_with(list, n, positions, normals, classes))
+    Built::Loop(make_with(mode, list, n, positions, normals, classes))
 }

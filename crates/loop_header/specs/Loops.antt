@@ -1,4 +1,4 @@
--- A loop's header (SCOPE 15), and what a loop that is handed back is refused for: the number, 0 for none (SCOPE 25, 26). Definitions only.
+-- A loop's header (SCOPE 15, 54), and what a loop that is handed back is refused for: the number, 0 for none (SCOPE 25, 26). Definitions only.
 use Prim.Native.Nat.{ℕ, _*_, _%_}
 use mathlib.Core.Bool.{Bool, true, false, _&&_, cond}
 use mathlib.Core.List.{List}
@@ -11,6 +11,7 @@ use Rattle.cap.specs.declared.Cap.{Cap}
 use Rattle.cap.specs.Caps.{emptyOne, fullOne}
 use Rattle.vec3.specs.declared.Insides.{Insides}
 use Rattle.vec3.specs.declared.Insides.the-variants.{Absent, Two}
+use Rattle.minor_arc.specs.declared.Mode.{Mode}
 use Rattle.judge.specs.Judge.{finiteVec, vectorFault, positionsFault}
 use Rattle.judge.specs.Judge as J
 use Rattle.loop_header.specs.declared.State.{State}
@@ -23,12 +24,15 @@ stateCode Empty = 0
 stateCode Full = 1
 stateCode Ring = 2
 
--- SCOPE 15: EMPTY is kept and steady, FULL is kept
-abbrev pub emptyHeader : Header
-emptyHeader = record { count = 0; state = Empty; cap = emptyOne; insides = Absent; reversed = false; weak = false }
+-- SCOPE 15: EMPTY is kept and steady, FULL is kept; SCOPE 54: each has the mode that it was built in
+abbrev pub bareHeader : Mode → State → Cap → Bool → Header
+bareHeader mode state cap weak = record { count = 0; state = state; cap = cap; insides = Absent; reversed = false; weak = weak; mode = mode }
 
-abbrev pub fullHeader : Bool → Header
-fullHeader weak = record { count = 0; state = Full; cap = fullOne; insides = Absent; reversed = false; weak = weak }
+abbrev pub emptyHeader : Mode → Header
+emptyHeader mode = bareHeader mode Empty emptyOne false
+
+abbrev pub fullHeader : Mode → Bool → Header
+fullHeader mode weak = bareHeader mode Full fullOne weak
 
 -- SCOPE 15: mute is a loop of more than three corners without insides
 abbrev pub isAbsent : Insides → Bool

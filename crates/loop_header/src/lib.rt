@@ -4,6 +4,7 @@ ghost use Prim.Native.Nat.{_*_, _≤_};
 ghost use lib.ListN.{length};
 ghost use Rattle.loop_header.specs.Loops as L;
 use cap::Cap;
+use minor_arc::Mode;
 use vec3::Insides;
 
 pub enum State {
@@ -12,7 +13,8 @@ pub enum State {
     Ring,
 }
 
-// What a loop is beside its slices. Mute is not stored: it is a ring above three corners whose insides are absent, so nothing can contradict it.
+// What a loop is beside its slices. Mute is not stored: it is a ring above three corners whose insides are absent, so nothing can contradict it. The mode is
+// the one that the loop was built in: its arcs meet others by it.
 pub struct Header {
     pub count: usize,
     pub state: State,
@@ -20,34 +22,36 @@ pub struct Header {
     pub insides: Insides,
     pub reversed: bool,
     pub weak: bool,
+    pub mode: Mode,
 }
 
-// The header of the empty loop: kept and steady.
-pub fn empty() -> Header
-    ensures { λ r. ⌜ r ≡ L.emptyHeader ⌝ }
+// The header of a loop without corners: kept.
+fn bare(mode: Mode, state: State, cap: Cap, weak: bool) -> Header
+    ensures { λ r. ⌜ r ≡ L.bareHeader mode state cap weak ⌝ }
 {
     Header {
         count: 0,
-        state: State::Empty,
-        cap: Cap::EMPTY,
-        insides: Insides::Absent,
-        reversed: false,
-        weak: false,
-    }
-}
-
-// The header of the full loop: kept; `weak` follows its turn sum.
-pub fn full(weak: bool) -> Header
-    ensures { λ r. ⌜ r ≡ L.fullHeader weak ⌝ }
-{
-    Header {
-        count: 0,
-        state: State::Full,
-        cap: Cap::FULL,
+        state,
+        cap,
         insides: Insides::Absent,
         reversed: false,
         weak,
+        mode,
     }
+}
+
+// The header of the empty loop: kept and steady.
+pub fn empty(mode: Mode) -> Header
+    ensures { λ r. ⌜ r ≡ L.emptyHeader mode ⌝ }
+{
+    bare(mode, State::Empty, Cap::EMPTY, false)
+}
+
+// The header of the full loop: kept; `weak` follows its turn sum.
+pub fn full(mode: Mode, weak: bool) -> Header
+    ensures { λ r. ⌜ r ≡ L.fullHeader mode weak ⌝ }
+{
+    bare(mode, State::Full, Cap::FULL, weak)
 }
 
 // Whether the count fits the state: 0 for empty and full, at least 3 for a ring.

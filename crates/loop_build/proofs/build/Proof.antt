@@ -6,14 +6,14 @@ use Rattle.loop_build.proofs.build.Statement.{statement}
 use Rattle.loop_build.proofs.build.Tie as tie
 
 returns : tie.Need-returns
-returns c = was-refused _ _ _ _ (c .if1 .taken) (c .before .refusal-of .ensures)
+returns c = was-refused _ _ _ _ _ (c .if1 .taken) (c .before .refusal-of .ensures)
 
 returns-2 : tie.Need-returns-2
 returns-2 c =
     let few = c .before in
     let counted = few .before in
     let good = counted .before in
-    nothing-left _ _ _ _ (good .before .refusal-of .ensures) (good .if1 .left) (counted .opened .ensures) (c .empty .ensures) (few .if2 .taken)
+    nothing-left _ _ _ _ (good .before .refusal-of .ensures) (good .if1 .left) (counted .opened .ensures) _ (c .empty .ensures) (few .if2 .taken)
 
 make-with-requires : tie.Need-make-with-requires
 make-with-requires c κs =
@@ -28,7 +28,7 @@ returns-3 c =
     let enough = made .before .before .before .before in
     let counted = enough .before in
     let good = counted .before in
-    looped _ _ _ _ (good .before .refusal-of .ensures) (good .if1 .left) (counted .opened .ensures) (enough .if2 .left) (made .make-with .ensures)
+    looped _ _ _ _ (good .before .refusal-of .ensures) (good .if1 .left) (counted .opened .ensures) _ (enough .if2 .left) (made .make-with .ensures)
 
 pub build-spec : {M : Type 1} → statement M
 build-spec =

@@ -18,7 +18,7 @@ returns c =
     let chosen = weak .before in
     let asked = chosen .before in
     full-made
-    _ _ ((prepared-of asked) .prepare .ensures) _ _ _
+    _ _ ((prepared-of asked) .prepare .ensures) _ _ _ _
     (asked .all-both .ensures) (chosen .if1 .taken) (weak .is-weak .ensures) (c .full .ensures)
 
 write-ring-requires : tie.Need-write-ring-requires
@@ -35,7 +35,7 @@ returns-2 c =
     let chosen = turned .before in
     let asked = chosen .before in
     ring-made
-    _ _ ((prepared-of asked) .prepare .ensures) _ _ _
+    _ _ ((prepared-of asked) .prepare .ensures) _ _ _ _
     (asked .all-both .ensures) (chosen .if1 .left) (turned .is-clockwise .ensures)
     (written .write-ring .ensures) (capped .bounding-cap .ensures) (c .is-weak2 .ensures)
 

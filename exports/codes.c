@@ -24,6 +24,11 @@ static const double eight[] = {A, B, B, A, -B, -B, A, -B, B, A, B, -B};
 static const double silent[] = {-T, T, -T, 1, 0, 0, -T, -T, T, T, -T, T};
 static const double one[] = {-0.8, 0, -0.6, 1, 0, 0, 0.64, -0.48, 0.6}, two[] = {0, -1, 0, 0, 0, 1, 1, 0, 0};
 static const double longer[] = {2, 0, 0}, across[] = {0.36, 0.48, 0.8, 0.36, 0.48, -0.8};
+/* A side of 164 degrees on the equator; a place south of it, across it from the strip's first inside and more than a quarter circle from there; a patch
+   that lies across it, more than a quarter circle from where it starts; two arcs that cross more than a quarter circle from the first one's start. */
+static const double strip[] = {1, 0, 0, -0.96, 0.28, 0, -0.9216, 0.2688, 0.28, 0.96, 0, 0.28}, beyond[] = {-0.598272, 0.797696, -0.07584};
+static const double patch[] = {0.768, 0.576, 0.28, 0.768, 0.576, -0.28, 0.9216, 0.2688, -0.28};
+static const double wide[] = {1, 0, 0, -0.8, 0.6, 0}, upright[] = {-0.36, 0.48, 0.8, -0.36, 0.48, -0.8};
 
 static int wrong = 0;
 static Loop loop, other;
@@ -42,15 +47,21 @@ static void hold(const char *what, unsigned long answer, unsigned long wanted) {
 #define LIST(list) BYTES(list), sizeof(list)
 #define LOOP(l) (l).bytes, (l).size
 
-static void build(Loop *l, const double *list, size_t n) {
-    uint32_t corners = desk_build(BYTES(list), DESK_LIST_BYTES(n), l->bytes, sizeof l->bytes);
+static void built(Loop *l, uint32_t corners) {
     if (DESK_IS_REFUSED(corners)) {
         printf("codes: a list is refused %u\n", (unsigned)(corners - DESK_REFUSED));
         wrong = 1;
     }
     l->size = DESK_LOOP_BYTES(corners);
 }
+static void build(Loop *l, const double *list, size_t n) {
+    built(l, desk_build(BYTES(list), DESK_LIST_BYTES(n), l->bytes, sizeof l->bytes));
+}
+static void build_long(Loop *l, const double *list, size_t n) {
+    built(l, desk_build_long(BYTES(list), DESK_LIST_BYTES(n), l->bytes, sizeof l->bytes));
+}
 #define BUILD(l, list) build(&(l), list, sizeof(list) / DESK_POSITION_BYTES)
+#define BUILD_LONG(l, list) build_long(&(l), list, sizeof(list) / DESK_POSITION_BYTES)
 
 static unsigned class_at(size_t n, size_t i) { return loop.bytes[DESK_HEADER_BYTES + 2 * DESK_LIST_BYTES(n) + i]; }
 
@@ -123,6 +134,52 @@ static void arcs(void) {
     HOLD(desk_arc_relate(a, sizeof a, b, sizeof b, out, DESK_POSITION_BYTES), DESK_ARCS_TOUCHING);
     HOLD(desk_arc(BYTES(square), 24, BYTES(octant + 6), 24, b, sizeof b), 0);
     HOLD(desk_arc_relate(a, sizeof a, b, sizeof b, NULL, 0), DESK_ARCS_DISJOINT);
+    HOLD(desk_arc(BYTES(wide), 24, BYTES(wide + 3), 24, a, sizeof a), 0);
+    HOLD(desk_arc(BYTES(upright), 24, BYTES(upright + 3), 24, b, sizeof b), 0);
+    HOLD(desk_arc_intersection(a, sizeof a, b, sizeof b, NULL, 0), DESK_NO);
+    HOLD(desk_arc_relate(a, sizeof a, b, sizeof b, NULL, 0), DESK_ARCS_DISJOINT);
+    HOLD(desk_arc_intersection_long(a, sizeof a, b, sizeof b, out, DESK_POSITION_BYTES - 1), DESK_REFUSED_ROOM);
+    HOLD(desk_arc_intersection_long(a, sizeof a, b, sizeof b, out, DESK_POSITION_BYTES), DESK_YES);
+    HOLD(desk_arc_relate_long(a, sizeof a, b, sizeof b, out, DESK_POSITION_BYTES - 1), DESK_REFUSED_ROOM);
+    HOLD(desk_arc_relate_long(a, sizeof a, b, sizeof b, out, DESK_POSITION_BYTES), DESK_ARCS_INTERSECTING);
+}
+
+/* In long mode: the mark alone is other than in plain mode, of empty and full too; and each call that goes by it. */
+static void modes(void) {
+    double ps[DESK_LIST_FLOATS(4)], ns[DESK_LIST_FLOATS(4)], qs[DESK_LIST_FLOATS(3)], ms[DESK_LIST_FLOATS(3)];
+    uint8_t header[DESK_HEADER_BYTES], classes[4], head[DESK_HEADER_BYTES], codes[3];
+    BUILD(other, strip);
+    BUILD_LONG(loop, strip);
+    HOLD(loop.bytes[3], DESK_MARK_REVERSED + DESK_MARK_INSIDES + DESK_MARK_LONG);
+    HOLD(desk_equivalent(LOOP(loop), LOOP(other)), DESK_YES);
+    HOLD(desk_pair(LOOP(loop), LOOP(other)), DESK_REFUSED_MODES);
+    HOLD(desk_place(LOOP(other), BYTES(beyond), 24), DESK_PLACE_INSIDE); /* plain mode misses where the way there leaves the strip */
+    HOLD(desk_place(LOOP(loop), BYTES(beyond), 24), DESK_PLACE_OUTSIDE);
+    HOLD(desk_simple(LOOP(loop)), DESK_YES);
+    other.bytes[3] += DESK_MARK_LONG;
+    HOLD(memcmp(loop.bytes, other.bytes, loop.size), 0);
+    BUILD(loop, strip);
+    BUILD(other, patch);
+    HOLD(desk_pair(LOOP(loop), LOOP(other)), DESK_PAIR_CONTAINING); /* and here that the sides cross */
+    BUILD_LONG(loop, strip);
+    BUILD_LONG(other, patch);
+    HOLD(desk_pair(LOOP(loop), LOOP(other)), DESK_PAIR_INTERSECTING);
+    HOLD(desk_build_long_f64(strip, 12, header, sizeof header, ps, 12, ns, 12, classes, 4), 4);
+    HOLD(memcmp(header, loop.bytes, sizeof header), 0);
+    HOLD(desk_build_long_f64(patch, 9, head, sizeof head, qs, 9, ms, 9, codes, 3), 3);
+    HOLD(desk_place_f64(header, sizeof header, ps, 12, ns, 12, classes, 4, beyond[0], beyond[1], beyond[2]), DESK_PLACE_OUTSIDE);
+    HOLD(desk_pair_f64(header, sizeof header, ps, 12, ns, 12, classes, 4, head, sizeof head, qs, 9, ms, 9, codes, 3), DESK_PAIR_INTERSECTING);
+    head[3] -= DESK_MARK_LONG;
+    HOLD(desk_pair_f64(header, sizeof header, ps, 12, ns, 12, classes, 4, head, sizeof head, qs, 9, ms, 9, codes, 3), DESK_REFUSED_MODES);
+    build_long(&loop, NULL, 0);
+    HOLD(loop.bytes[2], DESK_STATE_EMPTY);
+    HOLD(loop.bytes[3], DESK_MARK_LONG);
+    build_long(&other, straight, 3);
+    HOLD(other.bytes[2], DESK_STATE_FULL);
+    HOLD(other.bytes[3], DESK_MARK_LONG);
+    HOLD(desk_pair(LOOP(loop), LOOP(other)), DESK_PAIR_DISJOINT);
+    build(&other, straight, 3);
+    HOLD(desk_pair(LOOP(loop), LOOP(other)), DESK_REFUSED_MODES);
 }
 
 static void refusals(void) {
@@ -287,6 +344,7 @@ int main(void) {
     places();
     pairs();
     arcs();
+    modes();
     refusals();
     sizes();
     distances();

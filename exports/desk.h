@@ -30,10 +30,16 @@
       88+24n  n normals, 24 bytes each: the i-th is that of the edge from corner i to the next, counted round
       88+48n  n classes, a byte each: DESK_CLASS_..
    A ring of more than three corners without insides is MUTE: it cannot tell what lies in it. That is not "outside".
-   What desk_build or desk_build_f64 wrote, as many bytes or elements of it as a loop of the count it answered has,
-   handed back as it is, is refused by no call for what it is. With room, a position that is fine and triangles in
-   sixes of bytes there is no other refusal than DESK_REFUSED_NO_EAR of desk_triangles, DESK_REFUSED_BOTH_WAYS of
-   desk_pair, and DESK_REFUSED_NO_RING of desk_accepts, for empty and full.
+   A loop is PLAIN or LONG, by the mark DESK_MARK_LONG, which desk_build_long and desk_build_long_f64 set, for empty and
+   full too, and desk_build and desk_build_f64 do not. Two great circles meet in two points, opposite each other. Plain
+   takes the one on the side of the first arc's start alone, and misses a meeting that is a quarter circle or more from
+   it; long tries both, and asks no cap. desk_place, desk_pair, desk_simple and their _f64 forms go by the mark, no other
+   call reads it, and desk_pair and desk_pair_f64 refuse two loops of which one alone has it (DESK_REFUSED_MODES).
+   What desk_build, desk_build_long or one of their _f64 forms wrote, as many bytes or elements of it as a loop of the
+   count it answered has, handed back as it is, is refused by no call for what it is. With room, a position that is fine
+   and triangles in sixes of bytes there is no other refusal than DESK_REFUSED_NO_EAR of desk_triangles,
+   DESK_REFUSED_MODES and DESK_REFUSED_BOTH_WAYS of desk_pair, and DESK_REFUSED_NO_RING of desk_accepts, for empty and
+   full.
    The functions whose names end in _f64 take the same loop in parts: the 88 bytes of the header, 3n doubles of
    positions, 3n of normals, n classes. An ARC is 72 bytes: start, end, normal. A TRIANGLE is three uint16_t, numbers of
    the ring's corners counted from 0; those of a full loop number the 12 positions of desk_full_positions.
@@ -69,6 +75,7 @@ extern "C" {
 #define DESK_REFUSED_BOTH_WAYS (DESK_REFUSED + 7u)  /* each of two loops is found in the other */
 #define DESK_REFUSED_NO_EAR (DESK_REFUSED + 8u)     /* the ring cannot be cut into triangles */
 #define DESK_REFUSED_NO_RING (DESK_REFUSED + 9u)    /* triangles of an empty or full loop cannot be checked */
+#define DESK_REFUSED_MODES (DESK_REFUSED + 11u)     /* of two loops that are paired one is plain, the other long */
 /* where the answer is a size: from DESK_REFUSED_SIZE on, 2^32 */
 #define DESK_REFUSED_SIZE UINT64_C(4294967296)
 #define DESK_IS_REFUSED_SIZE(answer) ((answer) >= DESK_REFUSED_SIZE)
@@ -105,6 +112,7 @@ extern "C" {
 #define DESK_MARK_REVERSED 1u /* the list ran the other way, and the corners run against it */
 #define DESK_MARK_WEAK 2u     /* the sum of its turns is below 2^-30 in size: which way it runs is uncertain */
 #define DESK_MARK_INSIDES 4u  /* the two insides are there */
+#define DESK_MARK_LONG 8u     /* it was built long */
 #define DESK_CLASS_CONVEX 0u
 #define DESK_CLASS_REFLEX 1u
 #define DESK_CLASS_BOTH 2u
@@ -139,13 +147,18 @@ extern "C" {
    position that repeats the first, or 0 where fewer than three are left. DESK_LOOP_BYTES of the whole list suffices. */
 uint32_t desk_build(const uint8_t *list, size_t list_len, uint8_t *out, size_t out_len);
 
+/* The same in long mode: DESK_MARK_LONG is among the marks, and no other byte differs. For an area with a side of a
+   quarter circle or more, or so large that a place can lie that far from its inside, and for every area that is paired
+   with such a one. Refuses as desk_build does. */
+uint32_t desk_build_long(const uint8_t *list, size_t list_len, uint8_t *out, size_t out_len);
+
 /* DESK_PLACE_..: where a position lies. One on the border, a corner or on an edge, may be inside or outside;
    desk_vertex and desk_on_edge tell of the border. Refuses: the loop's, then the position's. */
 uint32_t desk_place(const uint8_t *loop, size_t loop_len, const uint8_t *position, size_t position_len);
 
 /* DESK_PAIR_..: how a stands to b. A mute loop contains nothing here, and which side of a weak one is inside hangs on
    rounding: with either the answer tells nothing sure, DESK_PAIR_DISJOINT least of all.
-   Refuses: those of a, those of b, BOTH_WAYS. */
+   Refuses: those of a, those of b, MODES, whatever the states, BOTH_WAYS. */
 uint32_t desk_pair(const uint8_t *a, size_t a_len, const uint8_t *b, size_t b_len);
 
 /* DESK_NO or DESK_YES: whether the loops have the same corners and classes, whatever their first corner and direction.
@@ -199,6 +212,13 @@ uint32_t desk_arc_intersection(const uint8_t *a, size_t a_len, const uint8_t *b,
    Refuses: those of a, those of b; ROOM below the 24 or 72 bytes that the answer writes. 72 always suffice. */
 uint32_t desk_arc_relate(const uint8_t *a, size_t a_len, const uint8_t *b, size_t b_len, uint8_t *out, size_t out_len);
 
+/* The same two in long mode: both points are tried in which the great circles meet. A position within both arcs comes
+   before one at an end. */
+uint32_t desk_arc_intersection_long(const uint8_t *a, size_t a_len, const uint8_t *b, size_t b_len, uint8_t *out,
+                                    size_t out_len);
+uint32_t desk_arc_relate_long(const uint8_t *a, size_t a_len, const uint8_t *b, size_t b_len, uint8_t *out,
+                              size_t out_len);
+
 /* ---- how far
    A SQUARED CHORD is what these write: the square of the straight line from a position to the nearest point, on a sphere of
    radius 1, from 0.0 to 4.0. It is neither a length nor an angle, but less is nearer. desk_radians makes it the angle at
@@ -225,6 +245,9 @@ uint32_t desk_arc_far(const uint8_t *arc, size_t arc_len, const uint8_t *positio
 uint32_t desk_build_f64(const double *list, size_t list_len, uint8_t *header, size_t header_len, double *positions,
                         size_t positions_len, double *normals, size_t normals_len, uint8_t *classes,
                         size_t classes_len);
+uint32_t desk_build_long_f64(const double *list, size_t list_len, uint8_t *header, size_t header_len, double *positions,
+                             size_t positions_len, double *normals, size_t normals_len, uint8_t *classes,
+                             size_t classes_len);
 uint32_t desk_place_f64(const uint8_t *header, size_t header_len, const double *positions, size_t positions_len,
                         const double *normals, size_t normals_len, const uint8_t *classes, size_t classes_len,
                         double x, double y, double z);

@@ -1,5 +1,6 @@
 /* A whole program over desk.h, plain C99 and C++: two areas are built, asked, measured, compared and cut, and then come a refusal,
-   a ring that is mute, a full loop, and the same two areas as a scene. What it prints is exports/sample.txt. */
+   a ring that is mute, a full loop, an area with a long side in both modes, and the first two areas as a scene. What it prints is
+   exports/sample.txt. */
 #include "desk.h"
 #include <stdio.h>
 #include <string.h>
@@ -25,6 +26,7 @@ static const char *refusal(uint32_t answer) {
     case DESK_REFUSED_BOTH_WAYS: return "each loop is found in the other";
     case DESK_REFUSED_NO_EAR: return "the ring cannot be cut";
     case DESK_REFUSED_NO_RING: return "an empty or full loop has no triangles to check";
+    case DESK_REFUSED_MODES: return "one loop is plain, the other long";
     default: return "a refusal that this program does not know";
     }
 }
@@ -57,21 +59,26 @@ static const char *state(const uint8_t *loop) {
     return corners > 3 && !(loop[3] & DESK_MARK_INSIDES) ? "mute ring" : "ring";
 }
 
-/* Builds an area of at most CORNERS positions; 1 where there is one. */
-static int build(const char *name, Area *area, const double *list, size_t n) {
+/* Builds an area of at most CORNERS positions, by desk_build or desk_build_long; 1 where there is one. */
+typedef uint32_t Build(const uint8_t *list, size_t list_len, uint8_t *out, size_t out_len);
+static int build_by(Build *by, const char *name, Area *area, const double *list, size_t n) {
     uint8_t bytes[DESK_LIST_BYTES(CORNERS)];
     uint32_t corners;
     if (n > CORNERS)
         return 0;
     put_floats(bytes, list, DESK_LIST_FLOATS(n));
-    corners = desk_build(bytes, DESK_LIST_BYTES(n), area->bytes, sizeof area->bytes);
+    corners = by(bytes, DESK_LIST_BYTES(n), area->bytes, sizeof area->bytes);
     if (refused(name, corners))
         return 0;
     area->size = DESK_LOOP_BYTES(corners);
-    printf("%s: %s of %u corners, %s, %s\n", name, state(area->bytes), (unsigned)corners,
+    printf("%s: %s of %u corners, %s, %s%s\n", name, state(area->bytes), (unsigned)corners,
            area->bytes[3] & DESK_MARK_REVERSED ? "reversed" : "kept",
-           area->bytes[3] & DESK_MARK_WEAK ? "weak" : "steady");
+           area->bytes[3] & DESK_MARK_WEAK ? "weak" : "steady", area->bytes[3] & DESK_MARK_LONG ? ", long" : "");
     return 1;
+}
+
+static int build(const char *name, Area *area, const double *list, size_t n) {
+    return build_by(desk_build, name, area, list, n);
 }
 
 static void place(const char *name, const Area *area, double x, double y, double z) {
@@ -147,6 +154,25 @@ static void cut_full(const Area *area) {
         return;
     p = positions + 3 * out[6 * (n - 1)];
     printf("full: triangles %u, the last one starts at (%.3f, %.3f, %.3f)\n", (unsigned)n, p[0], p[1], p[2]);
+}
+
+/* A strip with a side of 164 degrees along the equator, a place south of it and a patch across it. That the way from inside the strip to
+   the place crosses that side, more than a quarter circle on, and that the patch crosses it, as far from where it starts, long mode tells
+   alone. */
+static void compare_modes(void) {
+    static const double corners[] = {1, 0, 0, -0.96, 0.28, 0, -0.9216, 0.2688, 0.28, 0.96, 0, 0.28};
+    static const double across[] = {0.768, 0.576, 0.28, 0.768, 0.576, -0.28, 0.9216, 0.2688, -0.28};
+    static Area strip, patch, long_strip, long_patch;
+    if (!build("strip", &strip, corners, 4) || !build("patch", &patch, across, 3))
+        return;
+    place("strip", &strip, -0.598272, 0.797696, -0.07584);
+    relate("strip to patch", &strip, &patch);
+    if (!build_by(desk_build_long, "long strip", &long_strip, corners, 4)
+        || !build_by(desk_build_long, "long patch", &long_patch, across, 3))
+        return;
+    place("long strip", &long_strip, -0.598272, 0.797696, -0.07584);
+    relate("long strip to long patch", &long_strip, &long_patch);
+    relate("long strip to patch", &long_strip, &patch);
 }
 
 /* A record of a scene: the length of its body, its kind, and the body, numbers of areas and then positions. Answers its
@@ -256,6 +282,7 @@ int main(void) {
         cut_full(&full);
     }
     refused("short", desk_full_positions(NULL, 0));
+    compare_modes();
     run_example(first, second);
     return 0;
 }

@@ -1,5 +1,5 @@
-/* How much stack each call takes: the stack below is painted, the call made on loops of 512 corners, or a scene of two such
-   areas run, and what is no longer paint is counted. Prints the most, and what the scene took, and fails where that is not
+/* How much stack each call takes: the stack below is painted, the call made on loops of 512 corners, plain and then long, or a scene of
+   two such areas run, and what is no longer paint is counted. Prints the most, and what the scene took, and fails where that is not
    below half of DESK_STACK_BYTES and of DESK_SCENE_STACK_BYTES, so that the paths that these inputs do not take have as much
    again. */
 #include "desk.h"
@@ -82,7 +82,7 @@ static uint32_t run_scene(void) {
 #define PARTS(l) (l).header, DESK_HEADER_BYTES, (l).positions, DESK_LIST_FLOATS(N), (l).normals, DESK_LIST_FLOATS(N), (l).classes, N
 
 /* The calls by number: none of them is refused. */
-#define SCENE 27
+#define SCENE 38
 static uint32_t call(int which) {
     switch (which) {
     case 0: return desk_build(BYTES(a.list), DESK_LIST_BYTES(N), WHOLE(a));
@@ -112,13 +112,24 @@ static uint32_t call(int which) {
     case 24: return desk_far(WHOLE(a), BYTES(b.list), DESK_POSITION_BYTES, out, sizeof out);
     case 25: return desk_far_f64(PARTS(a), b.list[0], b.list[1], b.list[2], chord, 1);
     case 26: return desk_arc_far(arc, sizeof arc, BYTES(b.list), DESK_POSITION_BYTES, out, sizeof out);
+    case 27: return desk_build_long(BYTES(a.list), DESK_LIST_BYTES(N), WHOLE(a));
+    case 28: return desk_build_long(BYTES(b.list), DESK_LIST_BYTES(N), WHOLE(b));
+    case 29: return desk_build_long_f64(a.list, DESK_LIST_FLOATS(N), PARTS(a));
+    case 30: return desk_build_long_f64(b.list, DESK_LIST_FLOATS(N), PARTS(b));
+    case 31: return desk_place(WHOLE(a), BYTES(b.list), DESK_POSITION_BYTES);
+    case 32: return desk_place_f64(PARTS(a), b.list[0], b.list[1], b.list[2]);
+    case 33: return desk_pair(WHOLE(a), WHOLE(b));
+    case 34: return desk_pair_f64(PARTS(a), PARTS(b));
+    case 35: return desk_simple(WHOLE(a));
+    case 36: return desk_arc_intersection_long(arc, sizeof arc, other, sizeof other, out, sizeof out);
+    case 37: return desk_arc_relate_long(arc, sizeof arc, other, sizeof other, out, sizeof out);
     case SCENE: return run_scene();
-    case 28: return (uint32_t)(desk_root(0x4000000000000000u) >> 32);
-    case 29: return (uint32_t)(desk_radians(0x3ff0000000000000u) >> 32);
+    case 39: return (uint32_t)(desk_root(0x4000000000000000u) >> 32);
+    case 40: return (uint32_t)(desk_radians(0x3ff0000000000000u) >> 32);
     default: return (uint32_t)(desk_atan2(0x4000000000000000u, 0x3ff0000000000000u) >> 32);
     }
 }
-#define CALLS 31
+#define CALLS 42
 
 int main(void) {
     size_t most = 0, of_scene = 0;

@@ -14,6 +14,7 @@ use Rattle.laws.specs.Loop.{first}
 use Rattle.laws.proofs.Copies.{length-flat}
 use Rattle.ring_corners.specs.Corners.{cornerAt, normalAt, classAt, ringOf, normalsOf, classesOf, reversal, allBoth}
 use Rattle.vec3.proofs.Arrays.{size}
+use Rattle.minor_arc.specs.declared.Mode.{Mode}
 use Rattle.loop_header.specs.declared.Header.{Header}
 use Rattle.loop_build.specs.Build as B
 use Rattle.loop_build.proofs.Rooms.{list-fine}
@@ -36,8 +37,8 @@ cut a b k e =
     let none : length (emptied a) ≤ k = omega arith in
     rw (take-at a (drop k b) k e, drop-of-length-le (emptied a) none, append-nil)
 
-module _ (l : List Float) (n : ℕ) where
-  front-made : (b t : Bool) (ps ns : List Float) (cs : List ℕ) → let m = B.madeIf b l n t ps ns cs in front (m .header) (m .positions) (m .normals) (m .classes) ≡ B.madeIf b l n t [] [] []
+module _ (mode : Mode) (l : List Float) (n : ℕ) where
+  front-made : (b t : Bool) (ps ns : List Float) (cs : List ℕ) → let m = B.madeIf b mode l n t ps ns cs in front (m .header) (m .positions) (m .normals) (m .classes) ≡ B.madeIf b mode l n t [] [] []
   unfolding B.ringHeader
   front-made true t ps ns cs = refl
   front-made false t ps ns cs =
@@ -46,86 +47,82 @@ module _ (l : List Float) (n : ℕ) where
       let classes = cut (classesOf l n t) cs n (length-flat (λ k. classAt l n t k ∷ []) (λ j. refl) n 0) in
       rw (corners, normals, classes)
 
-  made-count : (b t : Bool) → B.madeIf b l n t [] [] [] .header .count ≤ n
+  made-count : (b t : Bool) → B.madeIf b mode l n t [] [] [] .header .count ≤ n
   unfolding B.ringHeader
   made-count true t = omega arith
   made-count false t = omega arith
 
-  same-header : (b t : Bool) (ps ns : List Float) (cs : List ℕ) → B.madeIf b l n t ps ns cs .header ≡ B.madeIf b l n t [] [] [] .header
+  same-header : (b t : Bool) (ps ns : List Float) (cs : List ℕ) → B.madeIf b mode l n t ps ns cs .header ≡ B.madeIf b mode l n t [] [] [] .header
   same-header true t ps ns cs = refl
   same-header false t ps ns cs = refl
 
   module _ (ps ns : List Float) (cs : List ℕ) where
-    pub header-is : (b : Bool) → B.outcomeIf b l n ps ns cs .answer ≡ B.loop (madeIf b l n .header)
+    pub header-is : (b : Bool) → B.outcomeIf b mode l n ps ns cs .answer ≡ B.loop (madeIf b mode l n .header)
     unfolding B.made
     header-is true = refl
     header-is false = ap B.loop (same-header (allBoth (classesOf l n (reversal l n))) (reversal l n) ps ns cs)
 
-    pub front-is : (b : Bool) → let x = B.outcomeIf b l n ps ns cs in front (madeIf b l n .header) (x .positions) (x .normals) (x .classes) ≡ madeIf b l n
+    pub front-is : (b : Bool) → let x = B.outcomeIf b mode l n ps ns cs in front (madeIf b mode l n .header) (x .positions) (x .normals) (x .classes) ≡ madeIf b mode l n
     unfolding B.made
     front-is true = refl
     front-is false = rw (← same-header (allBoth (classesOf l n (reversal l n))) (reversal l n) ps ns cs) (front-made (allBoth (classesOf l n (reversal l n))) (reversal l n) ps ns cs)
 
-  count-is : (b : Bool) → ltb n 3 ≡ b → (3 ≤ n → ⊥) → madeIf b l n .header .count ≡ 0
-  count-is true e h = refl
-  count-is false e h = absurd (h (ltb-false n 3 e))
-
-  pub count-most : (b : Bool) → madeIf b l n .header .count ≤ n
+  pub count-most : (b : Bool) → madeIf b mode l n .header .count ≤ n
   unfolding B.made
   count-most true = omega arith
   count-most false = made-count (allBoth (classesOf l n (reversal l n))) (reversal l n)
 
 -- ---- the answer tells whether there was a refusal
-module _ (l ps ns : List Float) (cs : List ℕ) where
-  refused-is : (k f : ℕ) → B.refused f ≡ B.outcomeBy k l ps ns cs .answer → (f ≡ k) × (k ≡ 0 → ⊥)
+module _ (mode : Mode) (l ps ns : List Float) (cs : List ℕ) where
+  refused-is : (k f : ℕ) → B.refused f ≡ B.outcomeBy k mode l ps ns cs .answer → (f ≡ k) × (k ≡ 0 → ⊥)
   refused-is zero f e =
-      let g = e ∙ header-is l (B.openedCount l) ps ns cs (ltb (B.openedCount l) 3) in
+      let g = e ∙ header-is mode l (B.openedCount l) ps ns cs (ltb (B.openedCount l) 3) in
       let z : _≡_ {A = ℕ} 0 1 = cc in
       absurd (omega arith)
   refused-is (suc k) f e = ((cc), λ z. omega arith)
 
-  looped-is : (k : ℕ) (h : Header) → B.loop h ≡ B.outcomeBy k l ps ns cs .answer → k ≡ 0
+  looped-is : (k : ℕ) (h : Header) → B.loop h ≡ B.outcomeBy k mode l ps ns cs .answer → k ≡ 0
   looped-is zero h e = refl
   looped-is (suc k) h e = let z : _≡_ {A = ℕ} 0 1 = cc in absurd (omega arith)
 
-module _ (l ps ns : List Float) (cs out : List ℕ) (w : Roomy (length out) (length ps) (length ns) (length cs)) {ps′ ns′ : List Float} {cs′ : List ℕ} where
-  pub was-refused : {f r : ℕ} → record { answer = B.refused f; positions = ps′; normals = ns′; classes = cs′ } ≡ B.buildOutcome l ps ns cs → r ≡ refusalOf f → outcome r out ≡ builtOutcome l out
+module _ (mode : Mode) (l ps ns : List Float) (cs out : List ℕ) (w : Roomy (length out) (length ps) (length ns) (length cs)) {ps′ ns′ : List Float} {cs′ : List ℕ} where
+  pub was-refused : {f r : ℕ} → record { answer = B.refused f; positions = ps′; normals = ns′; classes = cs′ } ≡ B.buildOutcome mode l ps ns cs → r ≡ refusalOf f → outcome r out ≡ builtOutcome mode l out
   unfolding B.buildOutcome builtOutcome
   was-refused {f} e q =
-      let a = refused-is l ps ns cs (B.refusal l ps ns cs) f (ap (λ (x : B.Outcome). x .answer) e) in
+      let a = refused-is mode l ps ns cs (B.refusal l ps ns cs) f (ap (λ (x : B.Outcome). x .answer) e) in
       rw (q, same-refusal l ps ns cs (length out) w (a .1), ← a .0) (by-outcome f out _ (λ z. a .1 (sym (a .0) ∙ z)))
 
-  module _ {h : Header} (e : record { answer = B.loop h; positions = ps′; normals = ns′; classes = cs′ } ≡ B.buildOutcome l ps ns cs) where
+  module _ {h : Header} (e : record { answer = B.loop h; positions = ps′; normals = ns′; classes = cs′ } ≡ B.buildOutcome mode l ps ns cs) where
     none : B.refusal l ps ns cs ≡ 0
     unfolding B.buildOutcome
-    none = looped-is l ps ns cs (B.refusal l ps ns cs) h (ap (λ (x : B.Outcome). x .answer) e)
+    none = looped-is mode l ps ns cs (B.refusal l ps ns cs) h (ap (λ (x : B.Outcome). x .answer) e)
 
-    whole : record { answer = B.loop h; positions = ps′; normals = ns′; classes = cs′ } ≡ B.outcomeIf (ltb (B.openedCount l) 3) l (B.openedCount l) ps ns cs
+    whole : record { answer = B.loop h; positions = ps′; normals = ns′; classes = cs′ } ≡ B.outcomeIf (ltb (B.openedCount l) 3) mode l (B.openedCount l) ps ns cs
     unfolding B.buildOutcome
-    whole = e ∙ ap (λ (k : ℕ). B.outcomeBy k l ps ns cs) none
+    whole = e ∙ ap (λ (k : ℕ). B.outcomeBy k mode l ps ns cs) none
 
-    header-of : h ≡ madeOf l .header
+    header-of : h ≡ madeOf mode l .header
     unfolding madeOf
-    header-of = let g = ap (λ (x : B.Outcome). x .answer) whole ∙ header-is l (B.openedCount l) ps ns cs (ltb (B.openedCount l) 3) in cc
+    header-of = let g = ap (λ (x : B.Outcome). x .answer) whole ∙ header-is mode l (B.openedCount l) ps ns cs (ltb (B.openedCount l) 3) in cc
 
-    front-of : front h ps′ ns′ cs′ ≡ madeOf l
+    front-of : front h ps′ ns′ cs′ ≡ madeOf mode l
     unfolding madeOf
-    front-of = rw (header-of, ap (λ (x : B.Outcome). x .positions) whole, ap (λ (x : B.Outcome). x .normals) whole, ap (λ (x : B.Outcome). x .classes) whole) (front-is l (B.openedCount l) ps ns cs (ltb (B.openedCount l) 3))
+    front-of = rw (header-of, ap (λ (x : B.Outcome). x .positions) whole, ap (λ (x : B.Outcome). x .normals) whole, ap (λ (x : B.Outcome). x .classes) whole) (front-is mode l (B.openedCount l) ps ns cs (ltb (B.openedCount l) 3))
 
-    short : length out < headerSize → loopOutcome h ps′ ns′ cs′ out ≡ builtOutcome l out
+    short : length out < headerSize → loopOutcome h ps′ ns′ cs′ out ≡ builtOutcome mode l out
     unfolding loopOutcome builtOutcome
     short g = rw (lt-ltb _ _ g, header-need l ps ns cs (length out) w none g)
 
-    long : headerSize ≤ length out → loopOutcome h ps′ ns′ cs′ out ≡ builtOutcome l out
+    enough : headerSize ≤ length out → loopOutcome h ps′ ns′ cs′ out ≡ builtOutcome mode l out
     unfolding loopOutcome builtOutcome
-    long g = rw (le-ltb _ _ g, no-need l ps ns cs (length out) w none g) (ap (λ (m : B.Made). outcome (m .header .count) (sets out 0 (madeBytes m))) front-of)
+    enough g = rw (le-ltb _ _ g, no-need l ps ns cs (length out) w none g) (ap (λ (m : B.Made). outcome (m .header .count) (sets out 0 (madeBytes m))) front-of)
 
-    pub was-written : {x : Outcome ℕ} → x ≡ loopOutcome h ps′ ns′ cs′ out → x ≡ builtOutcome l out
+    pub was-written : {x : Outcome ℕ} → x ≡ loopOutcome h ps′ ns′ cs′ out → x ≡ builtOutcome mode l out
     was-written q = q ∙ at (ltb (length out) headerSize) refl
       where
-        at : (b : Bool) → ltb (length out) headerSize ≡ b → loopOutcome h ps′ ns′ cs′ out ≡ builtOutcome l out
+        at : (b : Bool) → ltb (length out) headerSize ≡ b → loopOutcome h ps′ ns′ cs′ out ≡ builtOutcome mode l out
         at true t = short (ltb-true _ _ t)
-        at false t = long (ltb-false _ _ t)
+        at false t = enough (ltb-false _ _ t)
 
     -- the loop fits
     counted : h .count ≤ length cs
@@ -134,7 +131,7 @@ module _ (l ps ns : List Float) (cs out : List ℕ) (w : Roomy (length out) (len
       where
         at : (b : Bool) → ltb (B.openedCount l) 3 ≡ b → h .count ≤ length cs
         at true t = rw (header-of, t) (omega arith)
-        at false t = omega (arith, fits l ps ns cs (length out) w none (ltb-false _ _ t), rw (← header-of) at (count-most l (B.openedCount l) (ltb (B.openedCount l) 3)))
+        at false t = omega (arith, fits l ps ns cs (length out) w none (ltb-false _ _ t), rw (← header-of) at (count-most mode l (B.openedCount l) (ltb (B.openedCount l) 3)))
 
     pub fitting : length ps′ ≡ length ps → length ns′ ≡ length ns → length cs′ ≡ length cs → Fitting h (length out) (length ps′) (length ns′) (length cs′)
     fitting p q r =
@@ -158,12 +155,12 @@ module _ (h : Header) (ps ns : List Float) (cs : List ℕ) {out : ℕ} (f : Fitt
   }
 
 -- ---- lists in bytes
-pub unread : (s : List ℕ) (out : List ℕ) {r : ℕ} → (length s % vecSize ≡ 0 → ⊥) → r ≡ refusalOf 1 → outcome r out ≡ buildOutcome s out
+pub unread : (mode : Mode) (s out : List ℕ) {r : ℕ} → (length s % vecSize ≡ 0 → ⊥) → r ≡ refusalOf 1 → outcome r out ≡ buildOutcome mode s out
 unfolding buildOutcome
-unread s out h e = rw (ne-eqb _ _ h, e)
+unread mode s out h e = rw (ne-eqb _ _ h, e)
 
-module _ (s out : List ℕ) (h : length s % vecSize ≡ 0) where
-  pub in-bytes : {x : Outcome ℕ} → x ≡ builtOutcome (listAt s) out → x ≡ buildOutcome s out
+module _ (mode : Mode) (s out : List ℕ) (h : length s % vecSize ≡ 0) where
+  pub in-bytes : {x : Outcome ℕ} → x ≡ builtOutcome mode (listAt s) out → x ≡ buildOutcome mode s out
   unfolding buildOutcome
   in-bytes q = rw (eq-eqb _ _ h) q
 
@@ -175,12 +172,12 @@ module _ (s out : List ℕ) (h : length s % vecSize ≡ 0) where
       let b : 512 < length s / 8 / 3 = omega arith in
       rw (e, eq-eqb _ _ a, lt-ltb _ _ b)
 
-  pub too-long : {r : ℕ} → 512 < length s / vecSize → r ≡ refusalOf 2 → outcome r out ≡ buildOutcome s out
+  pub too-long : {r : ℕ} → 512 < length s / vecSize → r ≡ refusalOf 2 → outcome r out ≡ buildOutcome mode s out
   unfolding builtOutcome
   too-long g e = in-bytes (rw (too-many g, e))
 
-pub read-list : (s out : List ℕ) (n : ℕ) {l : List Float} {x : Outcome ℕ} → l ≡ floatsAt s 0 n → 8 * n ≡ length s → x ≡ builtOutcome l out → x ≡ builtOutcome (listAt s) out
-read-list s out n e h q =
+pub read-list : (mode : Mode) (s out : List ℕ) (n : ℕ) {l : List Float} {x : Outcome ℕ} → l ≡ floatsAt s 0 n → 8 * n ≡ length s → x ≡ builtOutcome mode l out → x ≡ builtOutcome mode (listAt s) out
+read-list mode s out n e h q =
     let k : length s / 8 ≡ n = omega arith in
     rw (k, ← e) q
 
@@ -209,34 +206,34 @@ first-none : (a : ℕ) → first a 0 ≡ a
 first-none zero = refl
 first-none (suc a) = refl
 
-module _ (l ps ns : List Float) (cs header : List ℕ) where
+module _ (mode : Mode) (l ps ns : List Float) (cs header : List ℕ) where
   short-five : first (B.refusal l ps ns cs) 5 ≡ first (B.listFault l) 5
   unfolding B.refusal
   short-five = one-five (B.listFault l) _ (five-or-none (B.openedCount l) (length ps) (length ns) (length cs))
 
-  pub unheaded : {r : ℕ} → length header < headerSize → r ≡ shortHeader l → record { number = r; header = header; positions = ps; normals = ns; classes = cs } ≡ floatsOutcome l header ps ns cs
+  pub unheaded : {r : ℕ} → length header < headerSize → r ≡ shortHeader l → record { number = r; header = header; positions = ps; normals = ns; classes = cs } ≡ floatsOutcome mode l header ps ns cs
   unfolding floatsOutcome
   unheaded g q = rw (need-header (length header) 0 g, short-five, q) (at (B.listFault l))
     where
-      at : (f : ℕ) → record { number = refusalOf (first f 5); header = header; positions = ps; normals = ns; classes = cs } ≡ outOutcome (B.outcomeBy (first f 5) l ps ns cs) header
+      at : (f : ℕ) → record { number = refusalOf (first f 5); header = header; positions = ps; normals = ns; classes = cs } ≡ outOutcome (B.outcomeBy (first f 5) mode l ps ns cs) header
       at zero = refl
       at (suc f) = refl
 
-  room-above : headerSize ≤ length header → floatsOutcome l header ps ns cs ≡ outOutcome (B.buildOutcome l ps ns cs) header
+  room-above : headerSize ≤ length header → floatsOutcome mode l header ps ns cs ≡ outOutcome (B.buildOutcome mode l ps ns cs) header
   unfolding floatsOutcome B.buildOutcome
   room-above g = rw (need-none (length header) 0 g (λ (z : 3 ≤ 0). absurd (omega arith)), first-none (B.refusal l ps ns cs))
 
-  counted-by : (k : ℕ) → B.refusal l ps ns cs ≡ k → Counted (B.outcomeBy k l ps ns cs .answer)
+  counted-by : (k : ℕ) → B.refusal l ps ns cs ≡ k → Counted (B.outcomeBy k mode l ps ns cs .answer)
   counted-by (suc k) e = tt
   counted-by zero e =
       let m = list-fine l (R.fine l ps ns cs e .0) in
-      subst (λ (x : B.Told). Counted x) (sym (header-is l (B.openedCount l) ps ns cs (ltb (B.openedCount l) 3))) (omega (arith, m .small, count-most l (B.openedCount l) (ltb (B.openedCount l) 3)))
+      subst (λ (x : B.Told). Counted x) (sym (header-is mode l (B.openedCount l) ps ns cs (ltb (B.openedCount l) 3))) (omega (arith, m .small, count-most mode l (B.openedCount l) (ltb (B.openedCount l) 3)))
 
-  module _ {u : B.Told} {ps′ ns′ : List Float} {cs′ : List ℕ} (e : record { answer = u; positions = ps′; normals = ns′; classes = cs′ } ≡ B.buildOutcome l ps ns cs) where
+  module _ {u : B.Told} {ps′ ns′ : List Float} {cs′ : List ℕ} (e : record { answer = u; positions = ps′; normals = ns′; classes = cs′ } ≡ B.buildOutcome mode l ps ns cs) where
     pub counted-told : Counted u
     unfolding B.buildOutcome
     counted-told = subst (λ (x : B.Told). Counted x) (sym (ap (λ (o : B.Outcome). o .answer) e)) (counted-by (B.refusal l ps ns cs) refl)
 
     pub headed : {r : ℕ} {header′ : List ℕ} → headerSize ≤ length header → outcome r header′ ≡ headerOutcome u header
-        → record { number = r; header = header′; positions = ps′; normals = ns′; classes = cs′ } ≡ floatsOutcome l header ps ns cs
+        → record { number = r; header = header′; positions = ps′; normals = ns′; classes = cs′ } ≡ floatsOutcome mode l header ps ns cs
     headed g q = rw (room-above g, ap (λ (x : Outcome ℕ). x .number) q, ap (λ (x : Outcome ℕ). x .out) q) (ap (λ (o : B.Outcome). outOutcome o header) e)

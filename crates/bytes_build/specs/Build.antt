@@ -1,4 +1,4 @@
--- Building over bytes, and over floats with the header in bytes: the answer is the count of the loop that was written, 0 for empty and full (SCOPE 32, 33).
+-- Building over bytes, and over floats with the header in bytes: the answer is the count of the loop that was written, 0 for empty and full (SCOPE 32, 33), and its mode is in its header (SCOPE 57).
 -- SCOPE 34: 5 is judged by the size of a loop of n, the opened count or 0 below three. Definitions only.
 use Prim.Native.Nat.{ℕ, _*_, _/_, _%_, _≤_}
 use mathlib.Core.Path.{_≡_}
@@ -10,6 +10,7 @@ use lib.Dec.{eqb, ltb}
 use lib.Ieee.{Float}
 use Rattle.numbers.specs.Choice.{if_then_else_}
 use Rattle.laws.specs.Loop.{first}
+use Rattle.minor_arc.specs.declared.Mode.{Mode}
 use Rattle.loop_header.specs.declared.Header.{Header}
 use Rattle.loop_header.specs.Loops.{emptyHeader}
 use Rattle.loop_build.specs.Build.{listFault, openedCount, Made, made}
@@ -19,12 +20,12 @@ use Rattle.bytes_loop.specs.Outcome.{Outcome, outcome, refusalOf, outcomeBy}
 use Rattle.bytes_loop.specs.Layout.{headerSize, loopSize, headerBytes, loopBytes, cornersFor}
 
 -- the loop of a list: its header and its three lists
-abbrev pub madeIf : Bool → List Float → ℕ → Made
-madeIf true l n = record { header = emptyHeader; positions = []; normals = []; classes = [] }
-madeIf false l n = made l n [] [] []
+abbrev pub madeIf : Bool → Mode → List Float → ℕ → Made
+madeIf true mode l n = record { header = emptyHeader mode; positions = []; normals = []; classes = [] }
+madeIf false mode l n = made mode l n [] [] []
 
-unfoldable pub madeOf : List Float → Made
-madeOf l = madeIf (ltb (openedCount l) 3) l (openedCount l)
+unfoldable pub madeOf : Mode → List Float → Made
+madeOf mode l = madeIf (ltb (openedCount l) 3) mode l (openedCount l)
 
 -- a loop in bytes
 abbrev pub madeBytes : Made → List ℕ
@@ -38,17 +39,17 @@ unfoldable pub needFault : ℕ → ℕ → ℕ
 needFault size n = cond (ltb size (loopSize (corners n))) 5 0
 
 -- of a list of floats
-unfoldable pub builtOutcome : List Float → List ℕ → Outcome ℕ
-builtOutcome l out =
+unfoldable pub builtOutcome : Mode → List Float → List ℕ → Outcome ℕ
+builtOutcome mode l out =
     outcomeBy (first (listFault l) (needFault (length out) (openedCount l))) out
-    (outcome (madeOf l .header .count) (sets out 0 (madeBytes (madeOf l))))
+    (outcome (madeOf mode l .header .count) (sets out 0 (madeBytes (madeOf mode l))))
 
 -- of a list in bytes
 abbrev pub listAt : List ℕ → List Float
 listAt s = floatsAt s 0 (length s / 8)
 
-unfoldable pub buildOutcome : List ℕ → List ℕ → Outcome ℕ
-buildOutcome s out = outcomeBy (cond (eqb (length s % vecSize) 0) 0 1) out (builtOutcome (listAt s) out)
+unfoldable pub buildOutcome : Mode → List ℕ → List ℕ → Outcome ℕ
+buildOutcome mode s out = outcomeBy (cond (eqb (length s % vecSize) 0) 0 1) out (builtOutcome mode (listAt s) out)
 
 -- with the header alone in bytes: what building leaves in the three slices, and its header
 pub record FloatsOutcome : Type 0 where
@@ -72,8 +73,8 @@ outOutcome o header = record {
 }
 
 -- SCOPE 34: 5 where a slice is shorter than its part, or the header than its 88 bytes, after the list's own refusals
-unfoldable pub floatsOutcome : List Float → List ℕ → List Float → List Float → List ℕ → FloatsOutcome
-floatsOutcome l header ps ns cs = outOutcome (B.outcomeBy (first (B.refusal l ps ns cs) (needFault (length header) 0)) l ps ns cs) header
+unfoldable pub floatsOutcome : Mode → List Float → List ℕ → List Float → List Float → List ℕ → FloatsOutcome
+floatsOutcome mode l header ps ns cs = outOutcome (B.outcomeBy (first (B.refusal l ps ns cs) (needFault (length header) 0)) mode l ps ns cs) header
 
 -- ---- inner
 -- the refusal of a list whose header has no room

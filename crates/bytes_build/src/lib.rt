@@ -10,6 +10,7 @@ use bytes_loop::HEADER;
 use bytes_loop::refusal;
 use loop_build::Built;
 use loop_header::Header;
+use minor_arc::Mode;
 
 // A loop written into bytes that have room for it, or refusal 5 where they cannot hold its header.
 fn leave_loop(out: &mut [u8], h: Header, positions: &[f64], normals: &[f64], classes: &[u8]) -> u32
@@ -27,6 +28,7 @@ fn leave_loop(out: &mut [u8], h: Header, positions: &[f64], normals: &[f64], cla
 
 // Builds a list's loop in lent work arrays, whose room is that of the bytes it is to be written into.
 fn build_from(
+    mode: Mode,
     list: &[f64],
     out: &mut [u8],
     positions: &mut [f64],
@@ -34,9 +36,9 @@ fn build_from(
     classes: &mut [u8],
 ) -> u32
     requires { ⌜ Bu.Roomy (length (now out)) (length (now positions)) (length (now normals)) (length (now classes)) ⌝ }
-    ensures { λ r. ⌜ outcome r (now (out .exit)) ≡ Bu.builtOutcome (now (list .entry)) (now (out .entry)) ⌝ }
+    ensures { λ r. ⌜ outcome r (now (out .exit)) ≡ Bu.builtOutcome mode (now (list .entry)) (now (out .entry)) ⌝ }
 {
-    let b = loop_build::build(list, positions, normals, classes);
+    let b = loop_build::build(mode, list, positions, normals, classes);
     match b {
         Built::Refused(f) => refusal(f),
         Built::Loop(h) => leave_loop(out, h, positions, normals, classes),
@@ -44,6 +46,7 @@ fn build_from(
 }
 
 fn build_in(
+    mode: Mode,
     list: &[u8],
     out: &mut [u8],
     floats: &mut [f64],
@@ -52,15 +55,15 @@ fn build_in(
     classes: &mut [u8],
 ) -> u32
     requires { ⌜ Bu.Roomy (length (now out)) (length (now positions)) (length (now normals)) (length (now classes)) × (8 * length (now floats) ≡ length (now list)) ⌝ }
-    ensures { λ r. ⌜ outcome r (now (out .exit)) ≡ Bu.builtOutcome (Bu.listAt (now (list .entry))) (now (out .entry)) ⌝ }
+    ensures { λ r. ⌜ outcome r (now (out .exit)) ≡ Bu.builtOutcome mode (Bu.listAt (now (list .entry))) (now (out .entry)) ⌝ }
 {
     wire::read_floats(list, 0, floats);
-    build_from(floats, out, positions, normals, classes)
+    build_from(mode, floats, out, positions, normals, classes)
 }
 
 // Builds a loop of positions in bytes into bytes.
-pub fn build(list: &[u8], out: &mut [u8]) -> u32
-    ensures { λ r. ⌜ outcome r (now (out .exit)) ≡ Bu.buildOutcome (now (list .entry)) (now (out .entry)) ⌝ }
+pub fn build(mode: Mode, list: &[u8], out: &mut [u8]) -> u32
+    ensures { λ r. ⌜ outcome r (now (out .exit)) ≡ Bu.buildOutcome mode (now (list .entry)) (now (out .entry)) ⌝ }
 {
     if list.len() % wire::VECTOR != 0 {
         return refusal(1);
@@ -77,6 +80,7 @@ pub fn build(list: &[u8], out: &mut [u8]) -> u32
     let mut normals = [0.0f64; 1536];
     let mut classes = [0u8; 512];
     build_in(
+        mode,
         list,
         out,
         &mut floats[..given],
@@ -102,6 +106,7 @@ fn leave_header(b: Built, header: &mut [u8]) -> u32
 
 // Builds a loop of positions in floats, with its header alone in bytes: their room is judged ahead of any writing.
 pub fn build_floats(
+    mode: Mode,
     list: &[f64],
     header: &mut [u8],
     positions: &mut [f64],
@@ -110,10 +115,13 @@ pub fn build_floats(
 ) -> u32
     ensures { λ r. ⌜
         record { number = r; header = now (header .exit); positions = now (positions .exit); normals = now (normals .exit); classes = now (classes .exit) }
-        ≡ Bu.floatsOutcome (now (list .entry)) (now (header .entry)) (now (positions .entry)) (now (normals .entry)) (now (classes .entry)) ⌝ }
+        ≡ Bu.floatsOutcome mode (now (list .entry)) (now (header .entry)) (now (positions .entry)) (now (normals .entry)) (now (classes .entry)) ⌝ }
 {
     if header.len() < HEADER {
         return refusal(judge::first(loop_build::list_fault(list), 5));
     }
-    leave_header(loop_build::build(list, positions, normals, classes), header)
+    leave_header(
+        loop_build::build(mode, list, positions, normals, classes),
+        header,
+    )
 }

@@ -2,6 +2,7 @@
 ghost use mathlib.Core.Path.{_≡_};
 ghost use Rattle.bytes_pair.specs.declared.Comparison.the-variants as C;
 ghost use Rattle.bytes_pair.specs.Pair as Pa;
+ghost use Rattle.minor_arc.specs.declared.Mode.the-variants.{Plain, Long};
 ghost use Rattle.bytes_loop.specs.Outcome.{outcome};
 ghost use Rattle.bytes_build.specs.Build as Bu;
 ghost use Rattle.bytes_ask.specs.declared.Question.the-variants as Q;
@@ -10,13 +11,21 @@ ghost use Rattle.bytes_cut.specs.Cut as Cu;
 ghost use Rattle.bytes_check.specs.Checking as Ch;
 use bytes_ask::Question;
 use bytes_pair::Comparison;
+use minor_arc::Mode;
 use vec3::Vec3;
 
 #[no_mangle]
 pub extern "C" fn desk_build(list: &[u8], out: &mut [u8]) -> u32
-    ensures { λ r. ⌜ outcome r (now (out .exit)) ≡ Bu.buildOutcome (now (list .entry)) (now (out .entry)) ⌝ }
+    ensures { λ r. ⌜ outcome r (now (out .exit)) ≡ Bu.buildOutcome Plain (now (list .entry)) (now (out .entry)) ⌝ }
 {
-    bytes_build::build(list, out)
+    bytes_build::build(Mode::Plain, list, out)
+}
+
+#[no_mangle]
+pub extern "C" fn desk_build_long(list: &[u8], out: &mut [u8]) -> u32
+    ensures { λ r. ⌜ outcome r (now (out .exit)) ≡ Bu.buildOutcome Long (now (list .entry)) (now (out .entry)) ⌝ }
+{
+    bytes_build::build(Mode::Long, list, out)
 }
 
 #[no_mangle]
@@ -153,7 +162,22 @@ pub extern "C" fn desk_build_f64(
 ) -> u32
     ensures { λ r. ⌜
         record { number = r; header = now (header .exit); positions = now (positions .exit); normals = now (normals .exit); classes = now (classes .exit) }
-        ≡ Bu.floatsOutcome (now (list .entry)) (now (header .entry)) (now (positions .entry)) (now (normals .entry)) (now (classes .entry)) ⌝ }
+        ≡ Bu.floatsOutcome Plain (now (list .entry)) (now (header .entry)) (now (positions .entry)) (now (normals .entry)) (now (classes .entry)) ⌝ }
 {
-    bytes_build::build_floats(list, header, positions, normals, classes)
+    bytes_build::build_floats(Mode::Plain, list, header, positions, normals, classes)
+}
+
+#[no_mangle]
+pub extern "C" fn desk_build_long_f64(
+    list: &[f64],
+    header: &mut [u8],
+    positions: &mut [f64],
+    normals: &mut [f64],
+    classes: &mut [u8],
+) -> u32
+    ensures { λ r. ⌜
+        record { number = r; header = now (header .exit); positions = now (positions .exit); normals = now (normals .exit); classes = now (classes .exit) }
+        ≡ Bu.floatsOutcome Long (now (list .entry)) (now (header .entry)) (now (positions .entry)) (now (normals .entry)) (now (classes .entry)) ⌝ }
+{
+    bytes_build::build_floats(Mode::Long, list, header, positions, normals, classes)
 }

@@ -4,6 +4,7 @@ use crate::calls::{Arg, Export, blank, blank_floats, blank_shorts};
 use crate::random::{P, Random, add, along, border_lengths, bytes, list_bytes, list_floats, neg, scale, unit};
 use crate::shapes;
 use crate::tally::Tally;
+use model::long::Mode;
 
 pub const HEADER: usize = 88;
 
@@ -116,7 +117,7 @@ pub fn build_f64(list: Vec<f64>, sizes: [usize; 4]) -> Vec<Arg> {
 /// Whether the list is in the domain: and a steady loop's direction must be the Rust's own.
 fn judge_turns(t: &mut Tally, list: &[P]) {
     let Ok(ps) = model::build::judge_list(&list_floats(list)) else { return };
-    let b = model::build::build(&ps);
+    let b = model::build::build(Mode::Plain, &ps);
     let Some((ours, rust)) = b.turns else { return };
     if b.weak {
         t.note("outside the domain: weak, held to the definition");

@@ -50,7 +50,9 @@ fn kind_of(call: &Call, a: &Answer) -> String {
         Export::Scene if a.value >= SIZE_REFUSED => format!("{name} refused {}", a.value - SIZE_REFUSED),
         Export::Scene => name,
         _ if a.value >= REFUSED => format!("{name} refused {}", a.value - REFUSED),
-        Export::Build | Export::BuildF64 => format!("{name} {}", header_kind(&a.outs[0])),
+        Export::Build | Export::BuildF64 | Export::BuildLong | Export::BuildLongF64 => {
+            format!("{name} {}", header_kind(&a.outs[0]))
+        }
         Export::Triangles | Export::TrianglesF64 => {
             let full = matches!(&call.args[0], Arg::Bytes(h) if h[2] == 1);
             format!(
@@ -78,7 +80,8 @@ fn header_kind(h: &[u8]) -> String {
     };
     let turned = if h[3] & 1 != 0 { " reversed" } else { " kept" };
     let weak = if h[3] & 2 != 0 { " weak" } else { " steady" };
-    format!("{state}{turned}{weak}")
+    let long = if h[3] & 8 != 0 { " long" } else { "" };
+    format!("{state}{turned}{weak}{long}")
 }
 
 /// Bits of a NaN are nobody's promise: every NaN counts as one.

@@ -8,6 +8,8 @@ mod exact;
 mod far;
 mod leaves;
 mod linked;
+mod long_arcs;
+mod long_loops;
 mod mutants;
 mod pairs;
 mod port;
@@ -43,7 +45,7 @@ host bench                       nanoseconds of both and their ratio
 host repeat WHO WHAT SHAPE N TIMES   one call over and over, for a profile (ours or rust; star or convex)";
 
 /// The groups, with the exports that they need one of.
-const GROUPS: [(&str, &[Export]); 17] = [
+const GROUPS: [(&str, &[Export]); 22] = [
     ("root", &[Export::Root]),
     ("atan", &[Export::Atan2]),
     ("leaves", &[Export::LeafVec, Export::LeafNumber, Export::LeafCase, Export::LeafCap]),
@@ -69,6 +71,12 @@ const GROUPS: [(&str, &[Export]); 17] = [
     ("far", &[Export::Far, Export::FarF64]),
     ("arc_far", &[Export::ArcFar]),
     ("radians", &[Export::Radians]),
+    ("long_arcs", &[Export::ArcIntersectionLong, Export::ArcRelateLong]),
+    ("long_build", &[Export::BuildLong, Export::BuildLongF64]),
+    // A port that does not build long loops passes their mark over.
+    ("long_place", &[Export::BuildLong]),
+    ("long_questions", &[Export::BuildLong]),
+    ("long_pair", &[Export::BuildLong]),
     ("scene", &[Export::Scene]),
     ("samples", &[Export::Scene]),
 ];
@@ -124,6 +132,11 @@ fn feed(group: &str, t: &mut Tally, r: &mut Random, n: usize) {
         "far" => far::loops(t, r, n),
         "arc_far" => far::arcs(t, r, n),
         "radians" => far::radians(t, r, n),
+        "long_arcs" => long_arcs::arcs(t, r, n),
+        "long_build" => long_loops::build(t, r, n),
+        "long_place" => long_loops::place(t, r, n),
+        "long_questions" => long_loops::questions(t, r, n),
+        "long_pair" => long_loops::pair(t, r, n),
         "samples" => samples::samples(t, r, n, &root(), open),
         _ => scenes::scenes(t, r, n, &root()),
     }
@@ -133,7 +146,7 @@ fn record(file: &str, wanted: usize) {
     let mut calls = Vec::new();
     // `test_replay` takes no others.
     let left_out = ["scene", "samples", "leaves", "caps", "turns", "far", "arc_far", "radians"];
-    for (group, _) in GROUPS.iter().filter(|g| !left_out.contains(&g.0)) {
+    for (group, _) in GROUPS.iter().filter(|g| !left_out.contains(&g.0) && !g.0.starts_with("long_")) {
         let mut t = Tally::only_filled();
         feed(group, &mut t, &mut Random::new(1), wanted * 4);
         calls.extend(t.drain());

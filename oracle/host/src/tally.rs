@@ -1,6 +1,8 @@
 //! Puts calls to both sides, compares, and counts.
 use crate::calls::{Answer, Arg, Call, Export, by_model};
 use crate::port::Port;
+use model::loops::LONG;
+use model::read::HEADER;
 use std::collections::BTreeMap;
 
 /// Differences that are printed whole.
@@ -10,6 +12,8 @@ const BATCH: usize = 1 << 20;
 
 pub struct Tally {
     port: Option<Port>,
+    /// Whether the port knows the long mode; one from before it passes mark 8 over, as it does every mark that it does not know.
+    knows_long: bool,
     waiting: Vec<Waiting>,
     size: usize,
     pub kinds: BTreeMap<String, u64>,
@@ -84,6 +88,25 @@ fn header_kind(h: &[u8]) -> String {
     format!("{state}{turned}{weak}{long}")
 }
 
+/// The same call, its loops without mark 8, where the answer goes by it.
+fn plain(call: &Call) -> Call {
+    let loops: &[usize] = match call.export {
+        Export::Place | Export::PlaceF64 | Export::Simple => &[0],
+        Export::Pair => &[0, 1],
+        Export::PairF64 => &[0, 4],
+        _ => &[],
+    };
+    let mut call = call.clone();
+    for i in loops {
+        if let Arg::Bytes(b) = &mut call.args[*i]
+            && b.len() >= HEADER
+        {
+            b[3] &= !LONG;
+        }
+    }
+    call
+}
+
 /// Bits of a NaN are nobody's promise: every NaN counts as one.
 fn one_nan(bytes: &[u8]) -> Vec<u64> {
     bytes
@@ -146,8 +169,9 @@ fn cut(mut s: String) -> String {
 }
 
 impl Tally {
-    pub fn new(port: Port) -> Self {
+    pub fn new(mut port: Port) -> Self {
         let mut t = Tally::only_filled();
+        t.knows_long = port.has(Export::BuildLong);
         t.port = Some(port);
         t
     }
@@ -156,6 +180,7 @@ impl Tally {
     pub fn only_filled() -> Self {
         Tally {
             port: None,
+            knows_long: true,
             waiting: Vec::new(),
             size: 0,
             kinds: BTreeMap::new(),
@@ -244,7 +269,7 @@ impl Tally {
             let answers = self.port.as_mut().expect("a port to ask").run(&calls);
             for ((call, (from, expected)), port) in calls.iter().zip(rest).zip(answers) {
                 if let Some(port) = port {
-                    let ours = expected.unwrap_or_else(|| by_model(call));
+                    let ours = expected.unwrap_or_else(|| self.model(call));
                     self.compare(call, from, &ours, &port);
                 }
             }
@@ -257,10 +282,14 @@ impl Tally {
         let answers = self.port.as_mut().expect("a port to ask").run(calls);
         for ((call, from), port) in calls.iter().zip(from).zip(&answers) {
             if let Some(port) = port {
-                self.compare(call, from, &by_model(call), port);
+                self.compare(call, from, &self.model(call), port);
             }
         }
         answers
+    }
+
+    fn model(&self, call: &Call) -> Answer {
+        if self.knows_long { by_model(call) } else { by_model(&plain(call)) }
     }
 
     fn compare(&mut self, call: &Call, from: &str, ours: &Answer, port: &Answer) {

@@ -3,7 +3,8 @@ use crate::arcs::{alter, arc, damage, normal, room, set_normal, two, two_faults}
 use crate::calls::{Answer, Arg, Call, Export};
 use crate::random::{P, Random, add, along, cross, frame, neg, scale, unit};
 use crate::tally::Tally;
-use jord::spherical::MinorArcRelation;
+use jord::Vec3;
+use jord::spherical::{MinorArc, MinorArcRelation};
 use model::arcs::read_arc;
 use model::long::{Mode, relation};
 use std::f64::consts::{FRAC_PI_2, PI, TAU};
@@ -97,9 +98,16 @@ fn near_halves(r: &mut Random) -> Two {
     (near(r, s), near(r, other))
 }
 
-/// Two arcs of one great circle, anywhere round it.
+/// Two arcs of one great circle, anywhere round it. In the plane of two axes their normals are the same but for the sign; elsewhere
+/// they are off by last bits, and the arcs meet somewhere on the circle.
 fn on_one_circle(r: &mut Random, off: f64) -> Two {
-    let (s, d, angle) = long(r);
+    let (mut s, mut d, angle) = long(r);
+    if r.chance(2) {
+        (s, d) = ([1.0, 0.0, 0.0], [0.0, 1.0, 0.0]);
+        let k = r.below(3);
+        s.rotate_right(k);
+        d.rotate_right(k);
+    }
     let begin = match r.below(4) {
         0 => 0.0,
         1 => angle,
@@ -232,6 +240,8 @@ struct Row {
     long: [u64; 4],
     differ: u64,
     refused: u64,
+    /// The point itself is NaN, or a product by which it is placed.
+    nan: u64,
 }
 
 impl Row {
@@ -239,11 +249,12 @@ impl Row {
         let told = |c: [u64; 4]| format!("{} {} {} {}", c[0], c[1], c[2], c[3]);
         let pairs: u64 = self.plain.iter().sum();
         format!(
-            "{name:<24} plain {:<32} long {:<32} {} of {pairs} differ, {} refused",
+            "{name:<24} plain {:<32} long {:<32} {} of {pairs} differ, {} refused, {} NaN",
             told(self.plain),
             told(self.long),
             self.differ,
-            self.refused
+            self.refused,
+            self.nan
         )
     }
 
@@ -252,6 +263,7 @@ impl Row {
         self.long.iter_mut().zip(o.long).for_each(|(a, b)| *a += b);
         self.differ += o.differ;
         self.refused += o.refused;
+        self.nan += o.nan;
     }
 }
 
@@ -267,6 +279,14 @@ fn count(row: &mut Row, a: &[u8], b: &[u8]) {
     row.plain[told as usize] += 1;
     row.long[told_long as usize] += 1;
     row.differ += u64::from((told, plain) != (told_long, long));
+    row.nan += u64::from(runs_over(a, b));
+}
+
+fn runs_over(a: &[u8], b: &[u8]) -> bool {
+    let (Ok(a), Ok(b)) = (read_arc(a), read_arc(b)) else { return false };
+    let i = a.normal().stable_cross_prod_unit(b.normal());
+    let placed = |of: MinorArc, end: Vec3| i.dot_prod(of.normal().cross_prod(end)).is_nan();
+    [a, b].iter().any(|of| placed(*of, of.start().as_vec3()) || placed(*of, of.end().as_vec3()))
 }
 
 fn rank(m: MinorArcRelation) -> u8 {
@@ -387,17 +407,22 @@ mod tests {
         assert!(touches > 1_000, "{touches}");
     }
 
-    /// Each family has pairs that differ between the modes, but for those that cannot.
+    /// The modes differ where arcs meet behind the first one's start, and hardly where they meet before it.
     #[test]
     fn the_modes_differ() {
         let mut r = Random::new(1);
-        for (name, _, family) in FAMILIES {
-            let differ = (0..2_000).filter(|_| {
-                let (a, b) = family(&mut r);
-                let (a, b) = (read_arc(&a).unwrap(), read_arc(&b).unwrap());
-                meeting(Mode::Plain, a, b) != meeting(Mode::Long, a, b)
-            });
-            assert!(differ.count() > 0 || name == "of one circle", "{name}");
+        let mut differ = |name: &str| {
+            let (_, _, family) = FAMILIES.iter().find(|f| f.0 == name).unwrap();
+            let told = |(a, b): (Vec<u8>, Vec<u8>)| (read_arc(&a).unwrap(), read_arc(&b).unwrap());
+            (0..2_000)
+                .map(|_| told(family(&mut r)))
+                .filter(|(a, b)| meeting(Mode::Plain, *a, *b) != meeting(Mode::Long, *a, *b))
+                .count()
+        };
+        assert!(differ("met behind the start") > 600 && differ("met before it") < 20);
+        for name in ["half circles", "nearly half circles", "ends shared or opposite", "equal ends", "altered normals"]
+        {
+            assert!(differ(name) > 50, "{name}");
         }
     }
 }

@@ -59,7 +59,7 @@ fn in_mode(l: &[u8], mode: Mode) -> Vec<u8> {
 
 /// Round a centre, with one gap of nearly half the round: the side across it is long.
 fn gaping(r: &mut Random, n: usize) -> Vec<P> {
-    let (centre, radius) = (r.unit(), r.between(0.6, 1.56));
+    let (centre, radius) = (r.unit(), r.between(0.9, 1.56));
     let gap = r.between(FRAC_PI_2, 0.99 * PI);
     let from = r.between(0.0, TAU);
     let turn = |i: usize| from + gap + (TAU - gap) * i as f64 / (n - 1) as f64;
@@ -459,7 +459,7 @@ mod tests {
             let l = wide(&mut r);
             (0..l.len()).any(|i| dot(l[i], l[(i + 1) % l.len()]) < 0.0)
         });
-        assert!(long.count() > 700);
+        assert!(long.count() > 600);
         assert!((0..1_000).all(|_| some_list(&mut r).len() < 700));
         let mut marks = std::collections::BTreeSet::new();
         for _ in 0..3_000 {

@@ -155,11 +155,10 @@ pub fn build(t: &mut Tally, r: &mut Random, n: usize) {
 /// The mark byte, or what a place or a pair reads of the header, otherwise than it was built.
 fn alter(r: &mut Random, b: &mut [u8]) {
     match r.below(6) {
-        0 => b[3] ^= 16 << r.below(4),
-        1 => b[3] = r.bits() as u8,
-        2 => b[3] ^= LONG,
-        3 => b[3] &= !INSIDES,
-        4 => {
+        0 => b[3] = r.bits() as u8,
+        1 => b[3] ^= LONG,
+        2 => b[3] &= !INSIDES,
+        3 | 4 => {
             // An empty cap, a full one, or one that ends within the ring.
             let radius: f64 = *r.pick(&[-1.0, 4.0, 0.0, 1e-3, -2.0, 5.0]);
             b[32..40].copy_from_slice(&radius.to_le_bytes());
@@ -175,9 +174,12 @@ fn alter(r: &mut Random, b: &mut [u8]) {
     }
 }
 
-/// A loop of that mode, one in four not as built.
+/// A loop of that mode, one in four not as built, and one in three with marks that nobody knows.
 fn handed(r: &mut Random, mode: Mode, list: &[P]) -> Vec<u8> {
     let mut l = built_in(mode, &list[..list.len().min(512)]);
+    if r.chance(3) {
+        l[3] |= r.bits() as u8 & 0xF0;
+    }
     match r.below(16) {
         0 => damaged_loop(r, &l),
         1..=3 => {
@@ -189,7 +191,7 @@ fn handed(r: &mut Random, mode: Mode, list: &[P]) -> Vec<u8> {
 }
 
 fn some_loop(r: &mut Random) -> Vec<u8> {
-    let mode = if r.chance(8) { Mode::Plain } else { Mode::Long };
+    let mode = if r.chance(5) { Mode::Plain } else { Mode::Long };
     match r.below(100) {
         0 => {
             let mut l = too_long(*r.pick(&[513, 600]));

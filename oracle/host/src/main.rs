@@ -3,6 +3,7 @@ mod arcs;
 mod bench;
 mod calls;
 mod constants;
+mod costs;
 mod cuts;
 mod exact;
 mod far;
@@ -41,6 +42,7 @@ host rings INPUT OUTPUT          the samples of the program `test_cuts`, and wha
 host expected FILE               what the model says of the scenes in FILE (samples/make.py), for the stored test `scene_tests`
 host serve                       answers the stub's batches by the model (for host mutants)
 host mutants [WORD]              wrong programs in the port's place: each must be noticed
+host long-costs [N] [SEED]       wrong answers of both modes where the right one is known, over N loops of each kind
 host bench                       nanoseconds of both and their ratio
 host repeat WHO WHAT SHAPE N TIMES   one call over and over, for a profile (ours or rust; star or convex)";
 
@@ -227,6 +229,18 @@ fn main() {
         }
         ["mutants"] => mutants::run(&root().join("oracle"), ""),
         ["mutants", word] => mutants::run(&root().join("oracle"), word),
+        ["long-costs"] => {
+            costs::costs(10_000, 1);
+            true
+        }
+        ["long-costs", n] => {
+            costs::costs(number(n) as usize, 1);
+            true
+        }
+        ["long-costs", n, seed] => {
+            costs::costs(number(n) as usize, number(seed));
+            true
+        }
         ["bench"] => {
             bench::bench();
             true

@@ -35,6 +35,7 @@ host constants                   the numbers that the port records
 host compare GROUP [N] [SEED]    N inputs of a group (or all) to both sides; exit status 1 on a difference
 host compare turns [N] [SEED]    among them: angles and the directions of steady loops, beside exact angles in whole numbers
 host compare radians [N] [SEED]  among them: N squared chords of each family, bit for bit, and how far they are from the Rust's
+host compare long_arcs [N] [SEED]  and long_build, long_place, long_questions, long_pair among them: the long mode, and where it differs from the plain one
 host compare samples [N] [SEED]  among them: the stored scenes, cut and damaged at every byte; N of these spread evenly, or all where N is 0
 host groups                      the groups whose exports are there
 host record FILE [N]             about N recorded answers an export, for the program `test_replay`

@@ -230,14 +230,27 @@ impl MinorArc {
         }
     }
 
-    // Whether of i and its opposite each one that the mode tries lies beyond an end for sure: one test that settles most of them.
-    pub fn misses(self, mode: Mode, i: Vec3) -> bool
-        ensures { λ r. ⌜ r ≡ Arcs.missed mode self i ⌝ }
+    // Whether p, and in long mode its opposite too, lies beyond an end of this arc for sure.
+    fn is_past(self, mode: Mode, p: Vec3) -> bool
+        ensures { λ r. ⌜ r ≡ Arcs.beyondAt mode self p ⌝ }
     {
-        let p = nearer(self.start, i);
         let s = p.dot_prod(self.normal.cross_prod(self.start));
         let e = p.dot_prod(self.normal.cross_prod(self.end));
         beyond_by(mode, s, e)
+    }
+
+    // Whether of i and its opposite each one that the mode tries lies beyond an end of this arc for sure: one test that settles most of them.
+    pub fn misses(self, mode: Mode, i: Vec3) -> bool
+        ensures { λ r. ⌜ r ≡ Arcs.missed mode self i ⌝ }
+    {
+        self.is_past(mode, nearer(self.start, i))
+    }
+
+    // The same of the other arc: it settles most of those that are left.
+    pub fn misses_other(self, mode: Mode, o: MinorArc, i: Vec3) -> bool
+        ensures { λ r. ⌜ r ≡ Arcs.missedOther mode self o i ⌝ }
+    {
+        o.is_past(mode, nearer(self.start, i))
     }
 
     // The source's `intersection_details`, with the unit vector of the normals' product at hand, as a caller has it who works out many of them first. The

@@ -53,7 +53,7 @@ module _ (h : Header) (ps ns : List Float) (cs : List ℕ) where
     vertex = λ p. asked-exact (query-exact (cleared p)) (hasVertex ps (h .count) (cleared p));
     on-edge = λ p. asked-exact (query-exact (cleared p)) (onEdge ps ns (h .count) (cleared p));
     convex = asked-exact loop-exact (convex ps (h .count));
-    simple = asked-exact loop-exact (simple ps ns (h .count));
+    simple = asked-exact loop-exact (simple (h .mode) ps ns (h .count));
     pair = pair-exact;
     equivalent = λ o qs ms ds. asked-exact (pair-exact o qs ms ds) (equivalentLoops h ps cs o qs ds);
   }

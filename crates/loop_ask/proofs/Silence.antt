@@ -1,5 +1,5 @@
 -- A theorem for silence: `Outside` is answered only if the loop is empty, or three-cornered, or has insides; in every other case the answer is inside, mute or a
--- refusal, and mute exactly where the header is. So "outside" is never an empty answer. Assumes nothing.
+-- refusal, and mute exactly where the header is. So "outside" is never an empty answer, in plain mode and in long mode. Assumes nothing.
 use Prim.Native.Nat.{ℕ, zero, suc, _≤_, _<_}
 use mathlib.Core.Path.{_≡_, refl, sym, ap, subst}
 use mathlib.Core.Bool.{Bool, true, false, false≢true, _&&_}

@@ -1,4 +1,4 @@
--- SCOPE 21: where a place lies, as a number: 0 outside, 1 inside, 2 mute. Definitions only.
+-- SCOPE 21, 55: where a place lies, as a number: 0 outside, 1 inside, 2 mute. Definitions only.
 use Prim.Native.Nat.{ℕ}
 use mathlib.Core.Bool.{Bool, true, false}
 use mathlib.Core.List.{List}
@@ -35,8 +35,9 @@ placeWithout h ps ns p =
     if eqb (h .count) 3 then insideCode (inTriangle ps ns p) else
     (if ltb 3 (h .count) then 2 else placeNoCorner (h .state))
 
+-- SCOPE 55: by the loop's mode
 abbrev pub insideWith : Header → Vec3 → Vec3 → List Float → List Float → Vec3 → Bool
-insideWith h a b ps ns p = insideBy (clearedCap (h .cap)) (cleared a) (cleared b) ps ns (h .count) p
+insideWith h a b ps ns p = insideBy (h .mode) (clearedCap (h .cap)) (cleared a) (cleared b) ps ns (h .count) p
 
 abbrev pub placeBy : Insides → Header → List Float → List Float → Vec3 → ℕ
 placeBy Absent h ps ns p = placeWithout h ps ns p

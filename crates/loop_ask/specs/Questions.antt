@@ -35,8 +35,9 @@ onEdgeAnswer h ps ns cs p = judged (queryFault h ps ns cs (cleared p)) (boolTold
 unfoldable pub convexAnswer : Header → List Float → List Float → List ℕ → Told
 convexAnswer h ps ns cs = judged (loopFault h ps ns cs) (boolTold (convex ps (h .count)))
 
+-- SCOPE 55: the edges are arcs of the loop's mode
 unfoldable pub simpleAnswer : Header → List Float → List Float → List ℕ → Told
-simpleAnswer h ps ns cs = judged (loopFault h ps ns cs) (boolTold (simple ps ns (h .count)))
+simpleAnswer h ps ns cs = judged (loopFault h ps ns cs) (boolTold (simple (h .mode) ps ns (h .count)))
 
 -- SCOPE 26: refusals 1 to 4 and 6 of a first loop all come before those of a second
 unfoldable pub pairFault : Header → List Float → List Float → List ℕ → Header → List Float → List Float → List ℕ → ℕ

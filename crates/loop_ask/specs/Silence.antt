@@ -1,5 +1,5 @@
--- SCOPE 15, 21: silence is not empty air. What an answer of outside says of the loop, and when the answer is mute. Proved in proofs/Silence.antt. Definitions
--- only.
+-- SCOPE 15, 21, 55: silence is not empty air. What an answer of outside says of the loop, and when the answer is mute: of every header, whatever its mode and
+-- its cap are. Proved in proofs/Silence.antt. Definitions only.
 use Prim.Native.Nat.{ℕ}
 use mathlib.Core.Path.{_≡_}
 use mathlib.Core.Bool.{true}

@@ -72,13 +72,15 @@ fn place_without(h: Header, positions: &[f64], normals: &[f64], p: Vec3) -> Plac
     }
 }
 
-// With insides: by the cap and the crossings, whatever the count and state.
+// With insides: by the cap, which long mode does not ask, and the crossings, whatever the count and state.
 fn inside_with(h: Header, a: Vec3, b: Vec3, positions: &[f64], normals: &[f64], p: Vec3) -> bool
     requires { ⌜ (h .count ≤ 512) × (3 * h .count ≤ length (now positions)) × (3 * h .count ≤ length (now normals)) ⌝ }
     ensures { λ r. ⌜ r ≡ P.insideWith h a b (now (positions .entry)) (now (normals .entry)) p ⌝ }
 {
+    let mode = h.mode;
     let cap = h.cap;
     ring_place::inside_by(
+        mode,
         cleared_cap(cap),
         a.clear(),
         b.clear(),
@@ -184,7 +186,8 @@ pub fn is_simple(h: Header, positions: &[f64], normals: &[f64], classes: &[u8]) 
     if f != 0 {
         return Answered::Refused(f);
     }
-    tell(ring_shape::is_simple(positions, normals, h.count))
+    let mode = h.mode;
+    tell(ring_shape::is_simple(mode, positions, normals, h.count))
 }
 
 // The refusals of a first loop, and then those of a second.

@@ -4,13 +4,15 @@ use mathlib.Core.Path.{_≡_, refl, sym}
 use mathlib.Core.Bool.{Bool, true, false, not, _&&_, false≢true}
 use mathlib.Core.List.{List}
 use lib.Ieee.{Float}
-use Rattle.cap.specs.Caps.{intersects}
+use Rattle.minor_arc.specs.declared.Mode.{Mode}
+use Rattle.minor_arc.specs.declared.Mode.the-variants.{Plain}
 use Rattle.loop_header.specs.declared.Header.{Header}
 use Rattle.ring_pair.specs.Contacts.{isCrossed, isTouched, contactOf}
 use Rattle.loop_ask.specs.Answers.{Told}
 use Rattle.loop_ask.specs.Places.{clearedCap}
-use Rattle.loop_ask.specs.Questions.{fullState, pairFault, equivalentLoops}
-use Rattle.loop_relate.specs.Relations.{emptyState, liesIn, byContainment, edgesIf, byEdges, equalIf, disjointIf, byCaps, fullIf, byStates, relateAnswer, searched}
+use Rattle.loop_ask.specs.Questions.{fullState, equivalentLoops}
+use Rattle.loop_relate.specs.Relations.{emptyState, liesIn, byContainment, edgesIf, byEdges, equalIf, disjointIf, capsMeet, byCaps, fullIf, byStates, relateFault, relateAnswer, searched}
+use Rattle.loop_relate.proofs.Modes.{asked-plain}
 use Rattle.loop_relate.specs.Silence.{Decided, equal, full-contains, caps-apart, crossing}
 
 -- the five tests in a row: full, both empty, caps, equivalent, crossed
@@ -28,25 +30,27 @@ passed false other false true true cross t e = absurd (false≢true e)
 passed false other false true false true t e = absurd (false≢true e)
 passed false other false true false false t e = refl
 
-stopped : (full other empty caps same cross : Bool) (t : Told) → tested full empty caps same cross ≡ false → Decided (told full other empty caps same cross t)
-stopped true true empty caps same cross t e = equal
-stopped true false empty caps same cross t e = full-contains
-stopped false other true caps same cross t e = equal
-stopped false other false false same cross t e = caps-apart
-stopped false other false true true cross t e = equal
-stopped false other false true false true t e = crossing
-stopped false other false true false false t e = absurd (false≢true (sym e))
+stopped : (mode : Mode) (full other empty caps same cross : Bool) (t : Told) → (caps ≡ false → mode ≡ Plain) → tested full empty caps same cross ≡ false
+    → Decided mode (told full other empty caps same cross t)
+stopped mode true true empty caps same cross t p e = equal
+stopped mode true false empty caps same cross t p e = full-contains
+stopped mode false other true caps same cross t p e = equal
+stopped mode false other false false same cross t p e = caps-apart (p refl)
+stopped mode false other false true true cross t p e = equal
+stopped mode false other false true false true t p e = crossing
+stopped mode false other false true false false t p e = absurd (false≢true (sym e))
 
-module _ (h : Header) (ps ns : List Float) (cs : List ℕ) (o : Header) (qs ms : List Float) (ds : List ℕ) (f : pairFault h ps ns cs o qs ms ds ≡ 0) where
+module _ (h : Header) (ps ns : List Float) (cs : List ℕ) (o : Header) (qs ms : List Float) (ds : List ℕ) (f : relateFault h ps ns cs o qs ms ds ≡ 0) where
   pub searched-says : searched h ps ns cs o qs ms ds ≡ true
-      → relateAnswer h ps ns cs o qs ms ds ≡ byContainment (isTouched (contactOf ps ns (h .count) qs ms (o .count))) (liesIn h ps o qs ms) (liesIn o qs h ps ns)
+      → relateAnswer h ps ns cs o qs ms ds ≡ byContainment (isTouched (contactOf (h .mode) ps ns (h .count) qs ms (o .count))) (liesIn h ps o qs ms) (liesIn o qs h ps ns)
   unfolding relateAnswer byStates byCaps byEdges searched
   searched-says e =
-      rw f (passed (fullState (h .state)) (fullState (o .state)) (emptyState (h .state) && emptyState (o .state)) (intersects (clearedCap (h .cap)) (clearedCap (o .cap)))
-      (equivalentLoops h ps cs o qs ds) (isCrossed (contactOf ps ns (h .count) qs ms (o .count))) _ e)
+      rw f (passed (fullState (h .state)) (fullState (o .state)) (emptyState (h .state) && emptyState (o .state)) (capsMeet (h .mode) (clearedCap (h .cap)) (clearedCap (o .cap)))
+      (equivalentLoops h ps cs o qs ds) (isCrossed (contactOf (h .mode) ps ns (h .count) qs ms (o .count))) _ e)
 
-  pub unsearched-says : searched h ps ns cs o qs ms ds ≡ false → Decided (relateAnswer h ps ns cs o qs ms ds)
+  pub unsearched-says : searched h ps ns cs o qs ms ds ≡ false → Decided (h .mode) (relateAnswer h ps ns cs o qs ms ds)
   unfolding relateAnswer byStates byCaps byEdges searched
   unsearched-says e =
-      rw f (stopped (fullState (h .state)) (fullState (o .state)) (emptyState (h .state) && emptyState (o .state)) (intersects (clearedCap (h .cap)) (clearedCap (o .cap)))
-      (equivalentLoops h ps cs o qs ds) (isCrossed (contactOf ps ns (h .count) qs ms (o .count))) _ e)
+      let meet = capsMeet (h .mode) (clearedCap (h .cap)) (clearedCap (o .cap)) in
+      rw f (stopped (h .mode) (fullState (h .state)) (fullState (o .state)) (emptyState (h .state) && emptyState (o .state)) meet
+      (equivalentLoops h ps cs o qs ds) (isCrossed (contactOf (h .mode) ps ns (h .count) qs ms (o .count))) _ (asked-plain (h .mode) _ _) e)

@@ -1,4 +1,4 @@
--- A loop that is not refused, related to itself, is Equal where its cap meets itself or it is full or empty. Assumes nothing.
+-- A loop that is not refused, related to itself, is Equal where its cap meets itself or it is full or empty, and in long mode always. Assumes nothing.
 use Prim.Native.Nat.{ℕ, zero, suc, _+_, _*_, _%_, _≤_, _<_}
 use mathlib.Core.Path.{_≡_, refl, ap, _∙_}
 use mathlib.Core.Bool.{Bool, true, false, not, Bool·beq}
@@ -16,6 +16,8 @@ use Rattle.vec3.specs.declared.Vec3.{Vec3}
 use Rattle.vec3.specs.Vec.{same, posAt}
 use Rattle.judge.specs.Judge.{finiteVec, vectorFault, faultOf, positionFault, positionsFault}
 use Rattle.cap.specs.Caps.{intersects}
+use Rattle.minor_arc.specs.declared.Mode.{Mode}
+use Rattle.minor_arc.specs.declared.Mode.the-variants.{Plain, Long}
 use Rattle.loop_header.specs.declared.State.{State}
 use Rattle.loop_header.specs.declared.State.the-variants.{Empty, Full, Ring}
 use Rattle.loop_header.specs.declared.Header.{Header}
@@ -26,7 +28,9 @@ use Rattle.ring_shape.specs.Shapes.{agree, beside, agreeAt, allAgree, sameRings
 use Rattle.loop_ask.specs.Answers.{answer}
 use Rattle.loop_ask.specs.Questions.{pairFault, equivalentLoops}
 use Rattle.loop_ask.specs.Places.{clearedCap}
-use Rattle.loop_relate.specs.Relations.{byCaps, byStates, relateAnswer}
+use Rattle.loop_relate.specs.Relations.{capsMeet, byCaps, byStates, relateFault, relateAnswer}
+use Rattle.loop_relate.specs.Selves.{Meets, full, empty, by-cap, Itself}
+use Rattle.loop_relate.proofs.Modes.{with-itself}
 
 -- ---- a finite position equals itself
 number-itself : (s : Bool) → Bool·beq s s ≡ true
@@ -82,10 +86,9 @@ same-rings ps cs zero h e = absurd (omega arith)
 same-rings ps cs (suc k) h e = simp (all-agree ps cs (suc k) e)
 
 -- ---- so a loop is equal to itself
-pub data Meets (h : Header) : Type 0 where
-  full : h .state ≡ Full → Meets h
-  empty : h .state ≡ Empty → Meets h
-  by-cap : intersects (clearedCap (h .cap)) (clearedCap (h .cap)) ≡ true → Meets h
+by-mode : (m : Mode) (h : Header) → intersects (clearedCap (h .cap)) (clearedCap (h .cap)) ≡ true → capsMeet m (clearedCap (h .cap)) (clearedCap (h .cap)) ≡ true
+by-mode Plain h e = e
+by-mode Long h e = refl
 
 module _ (h : Header) (ps ns : List Float) (cs : List ℕ) (s : Sound h ps ns cs) where
   equivalent-ring : h .state ≡ Ring → equivalentLoops h ps cs h ps cs ≡ true
@@ -95,7 +98,7 @@ module _ (h : Header) (ps ns : List Float) (cs : List ℕ) (s : Sound h ps ns cs
       let least : 3 ≤ h .count = leb-true 3 (h .count) c in
       simp (eq-eqb (h .count) (h .count) refl, ne-eqb (h .count) 0 (λ z. omega arith), same-rings ps cs (h .count) (omega arith) (s .ring .positions-fine))
 
-  by-state : (t : State) → h .state ≡ t → intersects (clearedCap (h .cap)) (clearedCap (h .cap)) ≡ true → byStates h ps ns cs h ps ns cs ≡ answer 5
+  by-state : (t : State) → h .state ≡ t → capsMeet (h .mode) (clearedCap (h .cap)) (clearedCap (h .cap)) ≡ true → byStates h ps ns cs h ps ns cs ≡ answer 5
   unfolding byStates byCaps
   by-state Full e m = simp e
   by-state Empty e m = simp e
@@ -105,9 +108,18 @@ module _ (h : Header) (ps ns : List Float) (cs : List ℕ) (s : Sound h ps ns cs
   unfolding byStates
   equal-states (full e) = simp e
   equal-states (empty e) = simp e
-  equal-states (by-cap m) = by-state (h .state) refl m
+  equal-states (by-cap m) = by-state (h .state) refl (by-mode (h .mode) h m)
 
-pub equal-to-itself : (h : Header) (ps ns : List Float) (cs : List ℕ) → loopFault h ps ns cs ≡ 0 → Meets h → relateAnswer h ps ns cs h ps ns cs ≡ answer 5
-unfolding relateAnswer pairFault
-equal-to-itself h ps ns cs e m =
-    simp (first-fine (loopFault h ps ns cs) (loopFault h ps ns cs) e e) (equal-states h ps ns cs (sound h ps ns cs e) m)
+  equal-long : h .mode ≡ Long → byStates h ps ns cs h ps ns cs ≡ answer 5
+  equal-long e = by-state (h .state) refl (rw e)
+
+module _ (h : Header) (ps ns : List Float) (cs : List ℕ) where
+  answered : loopFault h ps ns cs ≡ 0 → byStates h ps ns cs h ps ns cs ≡ answer 5 → relateAnswer h ps ns cs h ps ns cs ≡ answer 5
+  unfolding relateFault relateAnswer pairFault
+  answered e q = simp (first-fine (loopFault h ps ns cs) (loopFault h ps ns cs) e e, with-itself (h .mode)) q
+
+  pub equal-to-itself : Itself h ps ns cs
+  equal-to-itself = record {
+    meeting = λ e m. answered e (equal-states h ps ns cs (sound h ps ns cs e) m);
+    long = λ e m. answered e (equal-long h ps ns cs (sound h ps ns cs e) m);
+  }

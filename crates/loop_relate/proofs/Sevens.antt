@@ -1,5 +1,5 @@
 -- Refusal 7 of `relate`, exactly when it is given: each loop lies in the other, and nothing that is asked before decides. Assumes nothing.
-use Prim.Native.Nat.{ℕ, zero, suc, _≤_}
+use Prim.Native.Nat.{ℕ, zero, suc}
 use mathlib.Core.Path.{_≡_, refl, ap}
 use mathlib.Core.Bool.{Bool, true, false}
 use mathlib.Core.List.{List}
@@ -7,16 +7,10 @@ use native.Mathlib.Omega.{arith}
 use lib.Ieee.{Float}
 use borrow.Author.Tests.{not-false}
 use Rattle.loop_header.specs.declared.Header.{Header}
-use Rattle.loop_header.proofs.Most.{then-most, loop-most}
 use Rattle.loop_ask.specs.Answers.{Told, refused, answer, judged}
-use Rattle.loop_ask.specs.Questions.{pairFault}
-use Rattle.loop_ask.proofs.Exact.{exact}
 use Rattle.loop_relate.specs.Why.{Seven}
-use Rattle.loop_relate.specs.Relations.{byContainment, edgesIf, byEdges, equalIf, disjointIf, byCaps, fullIf, byStates, relateAnswer}
-
--- ---- no pair is refused by a number above 6 for what its loops are
-pub pair-most : (h : Header) (ps ns : List Float) (cs : List ℕ) (o : Header) (qs ms : List Float) (ds : List ℕ) → pairFault h ps ns cs o qs ms ds ≤ 6
-pair-most h ps ns cs o qs ms ds = then-most 6 (loop-most h ps ns cs) (loop-most o qs ms ds) _ (exact h ps ns cs .pair o qs ms ds .given-why _ refl)
+use Rattle.loop_relate.specs.Relations.{byContainment, edgesIf, byEdges, equalIf, disjointIf, byCaps, fullIf, byStates, relateFault, relateAnswer}
+use Rattle.loop_relate.proofs.Modes.{with-itself, unrefused, never-seven}
 
 -- ---- each step that leads to 7
 kind : Told → ℕ
@@ -31,10 +25,10 @@ number : Told → ℕ
 number (refused k) = k
 number (answer n) = 0
 
-after-judge : (k : ℕ) (t : Told) → k ≤ 6 → judged k t ≡ refused 7 → (k ≡ 0) × (t ≡ refused 7)
+after-judge : (k : ℕ) (t : Told) → (k ≡ 7 → ⊥) → judged k t ≡ refused 7 → (k ≡ 0) × (t ≡ refused 7)
 unfolding number
 after-judge zero t h e = (refl, e)
-after-judge (suc k) t h e = let g : suc k ≡ 7 = ap number e in absurd (omega arith)
+after-judge (suc k) t h e = absurd (h (ap number e))
 
 after-full : (a b : Bool) (t : Told) → fullIf a b t ≡ refused 7 → (a ≡ false) × (t ≡ refused 7)
 after-full true true t e = absurd (never 5 e)
@@ -64,7 +58,8 @@ module _ (h : Header) (ps ns : List Float) (cs : List ℕ) (o : Header) (qs ms :
   pub seven-only : relateAnswer h ps ns cs o qs ms ds ≡ refused 7 → Seven h ps ns cs o qs ms ds
   unfolding relateAnswer byStates byCaps byEdges
   seven-only e =
-      let a = after-judge _ _ (pair-most h ps ns cs o qs ms ds) e in
+      let a = after-judge _ _ (never-seven h ps ns cs o qs ms ds) e in
+      let fine = unrefused h ps ns cs o qs ms ds (a .0) in
       let b = after-full _ _ _ (a .1) in
       let c = after-equal _ _ (b .1) in
       let d = after-caps _ _ (c .1) in
@@ -72,7 +67,8 @@ module _ (h : Header) (ps ns : List Float) (cs : List ℕ) (o : Header) (qs ms :
       let g = after-edges _ _ (f .1) in
       let i = both-in _ _ _ (g .1) in
       record {
-        accepted = a .0;
+        accepted = fine .0;
+        one-mode = fine .1;
         not-full = b .0;
         not-empty = c .0;
         meeting = not-false _ (d .0);
@@ -83,5 +79,5 @@ module _ (h : Header) (ps ns : List Float) (cs : List ℕ) (o : Header) (qs ms :
       }
 
   pub seven-given : Seven h ps ns cs o qs ms ds → relateAnswer h ps ns cs o qs ms ds ≡ refused 7
-  unfolding relateAnswer byStates byCaps byEdges
-  seven-given s = simp (s .accepted, s .not-full, s .not-empty, s .meeting, s .different, s .uncrossed, s .first-in, s .second-in)
+  unfolding relateFault relateAnswer byStates byCaps byEdges
+  seven-given s = simp (s .accepted, ← s .one-mode, with-itself (h .mode), s .not-full, s .not-empty, s .meeting, s .different, s .uncrossed, s .first-in, s .second-in)

@@ -1,4 +1,4 @@
--- What an answer of `relate` says of the two loops, of a mute one and of a weak one too. Assumes nothing.
+-- What an answer of `relate` says of the two loops, of a mute one and of a weak one too, in both modes. Assumes nothing.
 use Prim.Native.Nat.{ℕ, zero, suc, _+_, _≤_, _<_}
 use mathlib.Core.Path.{_≡_, refl, sym, ap, _∙_}
 use mathlib.Core.Bool.{Bool, true, false, _&&_, _||_, false≢true}
@@ -26,7 +26,7 @@ use Rattle.loop_ask.specs.Answers.{Told, refused, answer}
 use Rattle.loop_ask.specs.Places.{clearedCap, placeWithout, placeBy, placeOf}
 use Rattle.loop_ask.specs.Questions.{fullState, pairFault, equivalentLoops}
 use Rattle.loop_ask.proofs.Silence.{code-mute, mute-code}
-use Rattle.loop_relate.specs.Relations.{isInside, placedInside, probeInside, liesIn, byEdges, byCaps, byStates, relateAnswer, searched, midpointFor, neededMidpoint}
+use Rattle.loop_relate.specs.Relations.{isInside, placedInside, probeInside, liesIn, byEdges, byCaps, byStates, relateFault, relateAnswer, searched, midpointFor, neededMidpoint}
 use Rattle.loop_relate.proofs.Searches.{searched-says, unsearched-says}
 use Rattle.loop_relate.proofs.Sevens.{seven-only}
 use Rattle.loop_relate.proofs.Ways.{code, Way, refusal, equal, full, caps-apart, crossing, points, way}
@@ -90,7 +90,7 @@ module _ (h : Header) (ps ns : List Float) (cs : List ℕ) (o : Header) (qs ms :
   disjoint-by _ (refusal k f) e = absurd (omega (arith, ap code e))
   disjoint-by _ equal e = absurd (omega (arith, ap code e))
   disjoint-by _ (full f s) e = absurd (omega (arith, ap code e))
-  disjoint-by _ (caps-apart c) e = caps c
+  disjoint-by _ (caps-apart m c) e = caps m c
   disjoint-by _ crossing e = absurd (omega (arith, ap code e))
   disjoint-by _ (points t true true c q a b) e = absurd (omega (arith, ap code e))
   disjoint-by _ (points t true false c q a b) e = absurd (omega (arith, ap code e))
@@ -102,7 +102,7 @@ module _ (h : Header) (ps ns : List Float) (cs : List ℕ) (o : Header) (qs ms :
   within-by _ (refusal k f) e = absurd (omega (arith, ap code e))
   within-by _ equal e = absurd (omega (arith, ap code e))
   within-by _ (full f s) e = absurd (omega (arith, ap code e))
-  within-by _ (caps-apart c) e = absurd (omega (arith, ap code e))
+  within-by _ (caps-apart m c) e = absurd (omega (arith, ap code e))
   within-by _ crossing e = absurd (omega (arith, ap code e))
   within-by _ (points t true b c q i j) e = speaks h ps o qs ms i
   within-by _ (points t false true c q i j) e = absurd (omega (arith, ap code e))
@@ -126,7 +126,7 @@ module _ (h : Header) (ps ns : List Float) (cs : List ℕ) (o : Header) (qs ms :
   containing-by _ (refusal k f) e = absurd (omega (arith, ap code e))
   containing-by _ equal e = absurd (omega (arith, ap code e))
   containing-by _ (full f s) e = full-speaks f s
-  containing-by _ (caps-apart c) e = absurd (omega (arith, ap code e))
+  containing-by _ (caps-apart m c) e = absurd (omega (arith, ap code e))
   containing-by _ crossing e = absurd (omega (arith, ap code e))
   containing-by _ (points t true true c q i j) e = absurd (omega (arith, ap code e))
   containing-by _ (points t true false c q i j) e = absurd (omega (arith, ap code e))
@@ -170,7 +170,7 @@ module _ (h : Header) (ps ns : List Float) (cs : List ℕ) (o : Header) (qs ms :
   states-unread = rw edges-unread
 
   unread : relateAnswer (marked r w h) ps ns cs (marked r′ w′ o) qs ms ds ≡ relateAnswer h ps ns cs o qs ms ds
-  unfolding relateAnswer pairFault
+  unfolding relateFault relateAnswer pairFault
   unread = rw (fault-unread r w h ps ns cs, fault-unread r′ w′ o qs ms ds, states-unread)
 
 -- ---- midpoints

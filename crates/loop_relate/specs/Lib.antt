@@ -1,3 +1,4 @@
 pub mod Relations
+pub mod Selves
 pub mod Silence
 pub mod Why

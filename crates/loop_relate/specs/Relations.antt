@@ -1,12 +1,16 @@
--- SCOPE 24: how two loops stand to each other, the refusal or the relation's number. Definitions only.
+-- SCOPE 24, 55, 56: how two loops stand to each other, the refusal or the relation's number. Definitions only.
 use Prim.Native.Nat.{ℕ, zero, suc, _*_, _≤_}
 use mathlib.Core.Bool.{Bool, true, false, not, _&&_, _||_}
 use mathlib.Core.List.{List}
 use lib.ListN.{length}
 use lib.Dec.{ltb}
 use lib.Ieee.{Float}
+use Rattle.laws.specs.Loop.{first}
 use Rattle.vec3.specs.declared.Vec3.{Vec3}
+use Rattle.cap.specs.declared.Cap.{Cap}
 use Rattle.cap.specs.Caps.{intersects}
+use Rattle.minor_arc.specs.declared.Mode.{Mode}
+use Rattle.minor_arc.specs.declared.Mode.the-variants.{Plain, Long}
 use Rattle.loop_header.specs.declared.State.{State}
 use Rattle.loop_header.specs.declared.State.the-variants.{Empty, Full, Ring}
 use Rattle.loop_header.specs.declared.Header.{Header}
@@ -34,6 +38,17 @@ abbrev pub emptyState : State → Bool
 emptyState Empty = true
 emptyState Full = false
 emptyState Ring = false
+
+-- SCOPE 56: 11 for loops of different modes
+abbrev pub modesFault : Mode → Mode → ℕ
+modesFault Plain Plain = 0
+modesFault Plain Long = 11
+modesFault Long Plain = 11
+modesFault Long Long = 0
+
+-- after both loops' own refusals, whatever their states
+unfoldable pub relateFault : Header → List Float → List Float → List ℕ → Header → List Float → List Float → List ℕ → ℕ
+relateFault h ps ns cs o qs ms ds = first (pairFault h ps ns cs o qs ms ds) (modesFault (h .mode) (o .mode))
 
 -- sizes of two loops that are not refused
 pub record Sized (h : Header) (ps ns : List Float) (o : Header) (qs ms : List Float) : Type 0 where
@@ -77,10 +92,16 @@ abbrev pub edgesIf : Bool → Told → Told
 edgesIf true t = answer 2
 edgesIf false t = t
 
+-- SCOPE 55: by the first loop's mode, which is the second's too
 unfoldable pub byEdges : Header → List Float → List Float → Header → List Float → List Float → Told
 byEdges h ps ns o qs ms =
-    let k = contactOf ps ns (h .count) qs ms (o .count) in
+    let k = contactOf (h .mode) ps ns (h .count) qs ms (o .count) in
     edgesIf (isCrossed k) (byContainment (isTouched k) (liesIn h ps o qs ms) (liesIn o qs h ps ns))
+
+-- SCOPE 55: the caps are asked in plain mode alone, as a long side may leave its cap
+abbrev pub capsMeet : Mode → Cap → Cap → Bool
+capsMeet Plain c d = intersects c d
+capsMeet Long c d = true
 
 -- caps that do not meet are disjoint; equivalent loops are equal
 abbrev pub equalIf : Bool → Told → Told
@@ -93,7 +114,7 @@ disjointIf false t = t
 
 unfoldable pub byCaps : Header → List Float → List Float → List ℕ → Header → List Float → List Float → List ℕ → Told
 byCaps h ps ns cs o qs ms ds =
-    disjointIf (not (intersects (clearedCap (h .cap)) (clearedCap (o .cap))))
+    disjointIf (not (capsMeet (h .mode) (clearedCap (h .cap)) (clearedCap (o .cap))))
     (equalIf (equivalentLoops h ps cs o qs ds) (byEdges h ps ns o qs ms))
 
 -- the full loop contains every other; two full or two empty ones are equal
@@ -108,14 +129,15 @@ byStates h ps ns cs o qs ms ds =
     (equalIf (emptyState (h .state) && emptyState (o .state)) (byCaps h ps ns cs o qs ms ds))
 
 unfoldable pub relateAnswer : Header → List Float → List Float → List ℕ → Header → List Float → List Float → List ℕ → Told
-relateAnswer h ps ns cs o qs ms ds = judged (pairFault h ps ns cs o qs ms ds) (byStates h ps ns cs o qs ms ds)
+relateAnswer h ps ns cs o qs ms ds = judged (relateFault h ps ns cs o qs ms ds) (byStates h ps ns cs o qs ms ds)
 
 -- ---- SCOPE 10: a pair that needed a midpoint is outside the domain
--- the pair comes to the search for points: the first loop is not full, not both are empty, the caps meet, they are not equivalent, and no edges cross
+-- the pair comes to the search for points: the first loop is not full, not both are empty, the caps meet or are not asked, they are not equivalent, and no
+-- edges cross
 unfoldable pub searched : Header → List Float → List Float → List ℕ → Header → List Float → List Float → List ℕ → Bool
 searched h ps ns cs o qs ms ds =
-    not (fullState (h .state)) && not (emptyState (h .state) && emptyState (o .state)) && intersects (clearedCap (h .cap)) (clearedCap (o .cap))
-    && not (equivalentLoops h ps cs o qs ds) && not (isCrossed (contactOf ps ns (h .count) qs ms (o .count)))
+    not (fullState (h .state)) && not (emptyState (h .state) && emptyState (o .state)) && capsMeet (h .mode) (clearedCap (h .cap)) (clearedCap (o .cap))
+    && not (equivalentLoops h ps cs o qs ds) && not (isCrossed (contactOf (h .mode) ps ns (h .count) qs ms (o .count)))
 
 -- a ring with corners none of which is free: a midpoint of its edges is worked out
 abbrev pub midpointFor : List Float → ℕ → List Float → List Float → ℕ → Bool

@@ -3,11 +3,14 @@ ghost use mathlib.Core.Path.{_≡_};
 ghost use Prim.Native.Nat.{_*_, _≤_};
 ghost use lib.ListN.{length};
 ghost use Rattle.loop_ask.specs.Answers as An;
+ghost use Rattle.loop_ask.specs.Places as P;
 ghost use Rattle.loop_ask.specs.Questions as Q;
 ghost use Rattle.loop_relate.specs.Relations as Rel;
+use cap::Cap;
 use loop_ask::Placed;
 use loop_header::Header;
 use loop_header::State;
+use minor_arc::Mode;
 use ring_pair::Probe;
 
 pub enum Related {
@@ -27,6 +30,33 @@ fn is_empty(state: State) -> bool
         State::Empty => true,
         State::Full => false,
         State::Ring => false,
+    }
+}
+
+// Loops of different modes are refused, as no one mode would answer for both.
+fn modes_fault(m: Mode, n: Mode) -> u8
+    ensures { λ r. ⌜ r ≡ Rel.modesFault m n ⌝ }
+{
+    match m {
+        Mode::Plain => match n {
+            Mode::Plain => 0,
+            Mode::Long => 11,
+        },
+        Mode::Long => match n {
+            Mode::Plain => 11,
+            Mode::Long => 0,
+        },
+    }
+}
+
+// Whether the caps let two loops meet: in plain mode alone they are asked, as a long side may leave its cap.
+fn caps_meet(mode: Mode, one: Cap, other: Cap) -> bool
+    ensures { λ r. ⌜ r ≡ Rel.capsMeet mode (P.clearedCap one) (P.clearedCap other) ⌝ }
+{
+    let meet = loop_ask::cleared_cap(one).intersects(loop_ask::cleared_cap(other));
+    match mode {
+        Mode::Plain => meet,
+        Mode::Long => true,
     }
 }
 
@@ -99,7 +129,8 @@ fn by_edges(
     requires { ⌜ Rel.Sized h (now positions) (now normals) o (now others) (now theirs) ⌝ }
     ensures { λ r. ⌜ Rel.toldRelated r ≡ Rel.byEdges h (now (positions .entry)) (now (normals .entry)) o (now (others .entry)) (now (theirs .entry)) ⌝ }
 {
-    let k = ring_pair::contact_of(positions, normals, h.count, others, theirs, o.count);
+    let mode = h.mode;
+    let k = ring_pair::contact_of(mode, positions, normals, h.count, others, theirs, o.count);
     if ring_pair::is_crossed(k) {
         return Related::Intersecting;
     }
@@ -108,7 +139,7 @@ fn by_edges(
     by_containment(ring_pair::is_touched(k), within, containing)
 }
 
-// The caps first, then equivalence, then the edges: each cheaper than the next.
+// The caps first, where they are asked, then equivalence, then the edges: each cheaper than the next.
 fn by_caps(
     h: Header,
     positions: &[f64],
@@ -123,9 +154,10 @@ fn by_caps(
     requires { ⌜ Q.Comparable h (now positions) (now classes) o (now others) (now codes) ⌝ }
     ensures { λ r. ⌜ Rel.toldRelated r ≡ Rel.byCaps h (now (positions .entry)) (now (normals .entry)) (now (classes .entry)) o (now (others .entry)) (now (theirs .entry)) (now (codes .entry)) ⌝ }
 {
+    let mode = h.mode;
     let one = h.cap;
     let other = o.cap;
-    if !loop_ask::cleared_cap(one).intersects(loop_ask::cleared_cap(other)) {
+    if !caps_meet(mode, one, other) {
         return Related::Disjoint;
     }
     if loop_ask::equivalent(h, positions, classes, o, others, codes) {
@@ -176,7 +208,12 @@ pub fn relate(
 ) -> Related
     ensures { λ r. ⌜ Rel.toldRelated r ≡ Rel.relateAnswer h (now (positions .entry)) (now (normals .entry)) (now (classes .entry)) o (now (others .entry)) (now (theirs .entry)) (now (codes .entry)) ⌝ }
 {
-    let f = loop_ask::pair_fault(h, positions, normals, classes, o, others, theirs, codes);
+    let mode = h.mode;
+    let their_mode = o.mode;
+    let f = judge::first(
+        loop_ask::pair_fault(h, positions, normals, classes, o, others, theirs, codes),
+        modes_fault(mode, their_mode),
+    );
     if f != 0 {
         return Related::Refused(f);
     }

@@ -9,7 +9,7 @@ use Rattle.loop_header.specs.Loops.{loopFault}
 use Rattle.loop_ask.specs.Answers.{refused, judged}
 use Rattle.loop_ask.specs.Questions.{pairFault, equivalentAnswer}
 use Rattle.loop_ask.proofs.Judged.{was-refused}
-use Rattle.loop_relate.specs.Relations.{relateAnswer}
+use Rattle.loop_relate.specs.Relations.{relateFault, relateAnswer}
 use Rattle.bytes_loop.specs.Outcome.{refusalOf}
 use Rattle.bytes_loop.specs.Layout.{headerAt, positionsAt, normalsAt, classesAt, headerFault, frameFault, copyFault}
 use Rattle.bytes_ask.specs.Ask.{numberOf}
@@ -21,12 +21,12 @@ use Rattle.bytes_pair.specs.Pair.{toldOf, nextTold, againstTold, pairTol
 -- ---- a loop's refusal is every answer's
 module _ (h : Header) (ps ns : List Float) (cs : List ℕ) (o : Header) (qs ms : List Float) (ds : List ℕ) where
   first-refused : (q : Comparison) {k : ℕ} → loopFault h ps ns cs ≡ suc k → toldOf q h ps ns cs o qs ms ds ≡ refused (suc k)
-  unfolding relateAnswer equivalentAnswer pairFault
+  unfolding relateFault relateAnswer equivalentAnswer pairFault
   first-refused Relation e = rw e
   first-refused Equivalence e = rw e
 
   second-refused : (q : Comparison) {k : ℕ} → loopFault h ps ns cs ≡ 0 → loopFault o qs ms ds ≡ suc k → toldOf q h ps ns cs o qs ms ds ≡ refused (suc k)
-  unfolding relateAnswer equivalentAnswer pairFault
+  unfolding relateFault relateAnswer equivalentAnswer pairFault
   second-refused Relation z e = rw (z, e)
   second-refused Equivalence z e = rw (z, e)
 

@@ -1,4 +1,4 @@
--- Two loops in bytes. SCOPE 34: the second's refusals come after all of the first's. Definitions only.
+-- Two loops in bytes. SCOPE 34: the second's refusals come after all of the first's; SCOPE 56: 11 comes after both. Definitions only.
 use Prim.Native.Nat.{ℕ}
 use mathlib.Core.List.{List}
 use lib.Ieee.{Float}
@@ -13,7 +13,7 @@ use Rattle.bytes_loop.specs.Layout.{headerAt, positionsAt, normalsAt, classesAt
 use Rattle.bytes_pair.specs.declared.Comparison.{Comparison}
 use Rattle.bytes_pair.specs.declared.Comparison.the-variants.{Relation, Equivalence}
 
--- the relation's number, or whether the two are equivalent
+-- the relation's number, or whether the two are equivalent. SCOPE 56: loops of different modes have no relation, 65,547 as a number, but may be equivalent
 abbrev pub toldOf : Comparison → Header → List Float → List Float → List ℕ → Header → List Float → List Float → List ℕ → Told
 toldOf Relation h ps ns cs o qs ms ds = relateAnswer h ps ns cs o qs ms ds
 toldOf Equivalence h ps ns cs o qs ms ds = equivalentAnswer h ps ns cs o qs ms ds

@@ -81,9 +81,13 @@ fn beyond(s: f64, e: f64) -> bool
 fn beyond_by(mode: Mode, s: f64, e: f64) -> bool
     ensures { λ r. ⌜ r ≡ Arcs.beyondBy mode s e ⌝ }
 {
-    match mode {
-        Mode::Plain => beyond(s, e),
-        Mode::Long => beyond(s, e) & beyond(-s, -e),
+    if beyond(s, e) {
+        match mode {
+            Mode::Plain => true,
+            Mode::Long => beyond(-s, -e),
+        }
+    } else {
+        false
     }
 }
 

@@ -1,8 +1,7 @@
--- Two tests in one: the first does not pass, and the second does. Assumes nothing.
+-- A test that is negated and passes: it does not hold. Assumes nothing.
 use mathlib.Core.Path.{_≡_, refl}
-use mathlib.Core.Bool.{Bool, true, false, not, _&&_, false≢true}
+use mathlib.Core.Bool.{Bool, true, false, not, false≢true}
 
-pub second-alone : (a b : Bool) → not a && b ≡ true → (a ≡ false) × (b ≡ true)
-second-alone true b h = absurd (false≢true h)
-second-alone false true h = (refl, refl)
-second-alone false false h = absurd (false≢true h)
+pub not-so : (b : Bool) → not b ≡ true → b ≡ false
+not-so true h = absurd (false≢true h)
+not-so false h = refl

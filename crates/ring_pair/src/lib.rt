@@ -85,8 +85,10 @@ fn relation_at(
     requires { ⌜ (j < m) × (m ≤ 512) × (3 * m ≤ length (now others)) × (3 * m ≤ length (now theirs)) × (c ≡ B.candidateAt (a .normal) (now theirs) j) ⌝ }
     ensures { λ r. ⌜ r ≡ relationOf mode a (edgeAt (now (others .entry)) (now (theirs .entry)) m j) ⌝ }
 {
-    if !c.equals(Vec3::ZERO) & a.misses(mode, c) {
-        return MinorArcRelation::Disjoint;
+    if a.misses(mode, c) {
+        if !c.equals(Vec3::ZERO) {
+            return MinorArcRelation::Disjoint;
+        }
     }
     arc_relations::relate_at(mode, a, ring_edges::edge(others, theirs, m, j), c)
 }

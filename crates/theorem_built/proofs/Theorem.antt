@@ -1,5 +1,5 @@
--- Loops as built are refused by 8, 7 and 9 alone: the statement of specs/Built.antt, question by question. Assumes nothing.
-use Prim.Native.Nat.{ℕ, _-_, _*_, _%_, _≤_, _<_}
+-- Loops as built are refused by 8, 9, 7 and 11 alone: the statement of specs/Built.antt, question by question. Assumes nothing.
+use Prim.Native.Nat.{ℕ, zero, suc, _-_, _*_, _%_, _≤_, _<_}
 use mathlib.Core.Path.{_≡_, refl, sym, ap, _∙_}
 use mathlib.Core.Bool.{Bool, true, false, cond, true≢false}
 use mathlib.Core.List.{List}
@@ -16,6 +16,7 @@ use Rattle.vec3.specs.declared.Insides.{Insides}
 use Rattle.vec3.specs.declared.Insides.the-variants.{Absent, Two}
 use Rattle.vec3.specs.Vec.{cleared}
 use Rattle.judge.specs.Judge.{faultOf}
+use Rattle.judge.specs.Why.{Then, stops, goes-on}
 use Rattle.ring_edges.specs.Edges.{hasVertex, onEdge}
 use Rattle.ring_place.specs.Places.{inTriangle}
 use Rattle.ring_shape.specs.Shapes as S
@@ -33,15 +34,19 @@ use Rattle.loop_ask.specs.Answers.{Told, refused, answer, boolTold}
 use Rattle.loop_ask.specs.Places.{insideCode, placeNoCorner, placeWithout, placeBy, placeOf, insideWith}
 use Rattle.loop_ask.specs.Questions as Q
 use Rattle.loop_ask.specs.Questions.{queryFault, pairFault, equivalentLoops}
+use Rattle.loop_ask.specs.Why.{PairWhy}
+use Rattle.loop_ask.proofs.Exact as Ask
 use Rattle.loop_distances.specs.Distances.{chord, far, boundaryTold, boundaryAnswer}
 use Rattle.loop_triangles.specs.Triangles.{Outcome, cutTold, fullOutcome, triangulateOutcome, acceptsAnswer}
 use Rattle.loop_triangles.specs.Demand.{Cutting}
 use Rattle.loop_triangles.proofs.Demand.{cut-is, demand-3}
-use Rattle.loop_relate.specs.Relations.{liesIn, relateAnswer}
+use Rattle.loop_relate.specs.Relations.{liesIn, relateFault, relateAnswer}
+use Rattle.loop_relate.proofs.Modes.{ModesWhy, alike, unlike, fault-exact, unrefused}
 use Rattle.loop_relate.proofs.Ways.{Way, refusal, equal, full, caps-apart, crossing, points, way}
 use Rattle.loop_relate.proofs.Sevens.{seven-only}
-use Rattle.theorem_built.specs.Built.{Answers, triangleCount, Cut, all, no-ear, Checked, Related, related, each-in-other, Built}
-use Rattle.theorem_built.proofs.Whole.{some, whole}
+use Rattle.loop_relate.proofs.Selves.{equal-to-itself}
+use Rattle.theorem_built.specs.Built.{Answers, triangleCount, Cut, all, no-ear, Checked, Related, related, each-in-other, modes-differ, Built}
+use Rattle.theorem_built.proofs.Whole.{some, whole, stored-mode}
 
 -- ---- an answer, where nothing is refused
 told : (m k : ℕ) → k ≤ m → Answers m (answer k)
@@ -100,7 +105,7 @@ module _ (h : Header) (ps ns : List Float) (cs : List ℕ) (f : loopFault h ps n
 
   simple : Answers 1 (Q.simpleAnswer h ps ns cs)
   unfolding Q.simpleAnswer
-  simple = rw f (bool-told (S.simple ps ns (h .count)))
+  simple = rw f (bool-told (S.simple (h .mode) ps ns (h .count)))
 
   fits : countFits (h .state) (h .count) ≡ true
   fits = sound h ps ns cs f .ring .shaped .fits
@@ -195,26 +200,43 @@ module _ (h : Header) (ps ns : List Float) (cs : List ℕ) (o : Header) (qs ms :
   seven : relateAnswer h ps ns cs o qs ms ds ≡ refused 7 → Related h o (relateAnswer h ps ns cs o qs ms ds)
   seven e =
       let s = seven-only h ps ns cs o qs ms ds e in
-      rw e (each-in-other (is-ring h ps o qs ms (h .state) refl (fits h ps ns cs f) (s .first-in)) (is-ring o qs h ps ns (o .state) refl (fits o qs ms ds g) (s .second-in)))
+      rw e (each-in-other (s .one-mode) (is-ring h ps o qs ms (h .state) refl (fits h ps ns cs f) (s .first-in)) (is-ring o qs h ps ns (o .state) refl (fits o qs ms ds g) (s .second-in)))
 
-  -- one of the six relations, or 7
+  -- one of the six relations, 7 or 11
   relation : Related h o (relateAnswer h ps ns cs o qs ms ds)
-  relation = go _ refl (way h ps ns cs o qs ms ds)
+  relation = by-fault (relateFault h ps ns cs o qs ms ds) refl
     where
-      plain : (k : ℕ) → k ≤ 5 → relateAnswer h ps ns cs o qs ms ds ≡ answer k → Related h o (relateAnswer h ps ns cs o qs ms ds)
-      plain k l e = related (record { number = k; most = l; is = e })
+      -- neither loop is refused, so their modes differ
+      differing : (k : ℕ) → relateAnswer h ps ns cs o qs ms ds ≡ refused (suc k) → Then (PairWhy h ps ns cs o qs ms ds) (ModesWhy (h .mode) (o .mode)) (suc k)
+          → Related h o (relateAnswer h ps ns cs o qs ms ds)
+      differing k e (stops w) = absurd (omega (arith, both, Ask.exact h ps ns cs .pair o qs ms ds .why-given (suc k) w))
+      differing k e (goes-on z (unlike d)) = rw e (modes-differ d)
 
-      go : (t : Told) → relateAnswer h ps ns cs o qs ms ds ≡ t → Way h ps ns cs o qs ms ds t → Related h o (relateAnswer h ps ns cs o qs ms ds)
-      go _ e (refusal k w) = absurd (omega (arith, both, w))
-      go _ e equal = plain 5 (omega arith) e
-      go _ e (full w s) = plain 3 (omega arith) e
-      go _ e (caps-apart c) = plain 0 (omega arith) e
-      go _ e crossing = plain 2 (omega arith) e
-      go _ e (points t true true c q a b) = seven e
-      go _ e (points t true false c q a b) = plain 4 (omega arith) e
-      go _ e (points t false true c q a b) = plain 3 (omega arith) e
-      go _ e (points true false false c q a b) = plain 1 (omega arith) e
-      go _ e (points false false false c q a b) = plain 0 (omega arith) e
+      first-refused : (k : ℕ) → relateFault h ps ns cs o qs ms ds ≡ suc k → relateAnswer h ps ns cs o qs ms ds ≡ refused (suc k)
+      first-refused k f = unfold relateAnswer in rw f
+
+      by-way : relateFault h ps ns cs o qs ms ds ≡ 0 → (t : Told) → relateAnswer h ps ns cs o qs ms ds ≡ t → Way h ps ns cs o qs ms ds t
+          → Related h o (relateAnswer h ps ns cs o qs ms ds)
+      by-way z t e w = go t e w
+        where
+          found : (k : ℕ) → k ≤ 5 → relateAnswer h ps ns cs o qs ms ds ≡ answer k → Related h o (relateAnswer h ps ns cs o qs ms ds)
+          found k l e = related (unrefused h ps ns cs o qs ms ds z .1) (record { number = k; most = l; is = e })
+
+          go : (t : Told) → relateAnswer h ps ns cs o qs ms ds ≡ t → Way h ps ns cs o qs ms ds t → Related h o (relateAnswer h ps ns cs o qs ms ds)
+          go _ e (refusal k f) = absurd (omega (arith, z, f))
+          go _ e equal = found 5 (omega arith) e
+          go _ e (full f s) = found 3 (omega arith) e
+          go _ e (caps-apart m c) = found 0 (omega arith) e
+          go _ e crossing = found 2 (omega arith) e
+          go _ e (points t true true c q a b) = seven e
+          go _ e (points t true false c q a b) = found 4 (omega arith) e
+          go _ e (points t false true c q a b) = found 3 (omega arith) e
+          go _ e (points true false false c q a b) = found 1 (omega arith) e
+          go _ e (points false false false c q a b) = found 0 (omega arith) e
+
+      by-fault : (k : ℕ) → relateFault h ps ns cs o qs ms ds ≡ k → Related h o (relateAnswer h ps ns cs o qs ms ds)
+      by-fault zero z = by-way z _ refl (way h ps ns cs o qs ms ds)
+      by-fault (suc k) f = differing k (first-refused k f) (fault-exact h ps ns cs o qs ms ds .given-why (suc k) f)
 
 -- ---- the theorem on ears
 ears-of : (h : Header) (ps ns : List Float) (cs tris : List ℕ) → loopFault h ps ns cs ≡ 0 → h .state ≡ Ring → 3 * (h .count - 2) ≤ length tris → Cutting h ps cs tris
@@ -223,6 +245,7 @@ ears-of h ps ns cs tris f s r = demand-3 .cutting h ps cs tris (record { fine = 
 pub built : Built
 built = record {
   build = some;
+  stored-mode = stored-mode;
   loop-fault = whole;
   contains-position = λ a b. place (a .header) (a .positions) (a .normals) (a .classes) (whole a b);
   has-vertex = λ a b. vertex (a .header) (a .positions) (a .normals) (a .classes) (whole a b);
@@ -235,4 +258,6 @@ built = record {
   ears = λ a b tris s r. ears-of (a .header) (a .positions) (a .normals) (a .classes) tris (whole a b) s r;
   accepts = λ a b tris t. checked (a .header) (a .positions) (a .normals) (a .classes) (whole a b) tris t (a .header .state) refl;
   relate = λ a c b d. relation (a .header) (a .positions) (a .normals) (a .classes) (c .header) (c .positions) (c .normals) (c .classes) (whole a b) (whole c d);
+  relate-itself = λ a b m. equal-to-itself (a .header) (a .positions) (a .normals) (a .classes) .meeting (whole a b) m;
+  relate-itself-long = λ a b m. equal-to-itself (a .header) (a .positions) (a .normals) (a .classes) .long (whole a b) m;
 }

@@ -1,6 +1,6 @@
--- A loop that `build` answered, a ring, EMPTY or FULL, handed back to any question with room and a query that is fine, is refused by none of 1 to 6 (SCOPE 25):
--- by cutting with 8 alone, by `relate` with 7 alone, by the checker with 9 alone. Of lists of doubles, as every lent slice is. Proved in proofs/Theorem.antt.
--- Definitions only.
+-- A loop that `build` answered in either mode, a ring, EMPTY or FULL, handed back to any question with room and a query that is fine, is refused by none of 1
+-- to 6 (SCOPE 25): by cutting with 8 alone, by the checker with 9 alone, by `relate` with 7 alone, and with 11 beside a loop of the other mode (SCOPE 56). Of
+-- lists of doubles, as every lent slice is. Proved in proofs/Theorem.antt. Definitions only.
 use Prim.Native.Nat.{ℕ, _-_, _*_, _%_, _≤_, _<_}
 use mathlib.Core.Path.{_≡_}
 use mathlib.Core.List.{List}
@@ -9,6 +9,8 @@ use lib.Ieee.{Float}
 use Rattle.vec3.specs.declared.Vec3.{Vec3}
 use Rattle.vec3.specs.Vec.{cleared}
 use Rattle.judge.specs.Judge.{faultOf}
+use Rattle.minor_arc.specs.declared.Mode.{Mode}
+use Rattle.minor_arc.specs.declared.Mode.the-variants.{Long}
 use Rattle.loop_header.specs.declared.State.{State}
 use Rattle.loop_header.specs.declared.State.the-variants.{Empty, Full, Ring}
 use Rattle.loop_header.specs.declared.Header.{Header}
@@ -21,6 +23,7 @@ use Rattle.loop_distances.specs.Distances.{chord, far, boundaryAnswer}
 use Rattle.loop_triangles.specs.Triangles.{triangulateOutcome, acceptsAnswer}
 use Rattle.loop_triangles.specs.Demand.{Cutting}
 use Rattle.loop_relate.specs.Relations.{relateAnswer}
+use Rattle.loop_relate.specs.Selves.{Meets}
 
 -- a loop as the questions take it: its header, and its positions, normals and classes
 pub record Loop : Type 0 where
@@ -33,9 +36,10 @@ pub record Loop : Type 0 where
 abbrev pub handedBack : Header → Build.Outcome → Loop
 handedBack h o = record { header = h; positions = take (3 * h .count) (o .positions); normals = take (3 * h .count) (o .normals); classes = take (h .count) (o .classes) }
 
--- SCOPE 10: a loop as built: `build` answered it, for some list of doubles and some lent slices
+-- SCOPE 10: a loop as built: `build` answered it, in some mode, for some list of doubles and some lent slices
 pub data AsBuilt : Loop → Type 0 where
-  as-built : (l ps ns : List Float) (cs : List ℕ) (h : Header) → Doubles l → buildOutcome l ps ns cs .answer ≡ Build.loop h → AsBuilt (handedBack h (buildOutcome l ps ns cs))
+  as-built : (mode : Mode) (l ps ns : List Float) (cs : List ℕ) (h : Header) → Doubles l → buildOutcome mode l ps ns cs .answer ≡ Build.loop h
+      → AsBuilt (handedBack h (buildOutcome mode l ps ns cs))
 
 -- a question that is put to a loop
 abbrev pub ask : {A : Type 0} → (Header → List Float → List Float → List ℕ → A) → Loop → A
@@ -64,15 +68,18 @@ Checked Empty t = t ≡ refused 9
 Checked Full t = t ≡ refused 9
 Checked Ring t = Answers 1 t
 
--- SCOPE 24, 25: one of the six relations, or 7, and that of two rings alone
+-- SCOPE 24, 25: of loops of one mode one of the six relations, or 7, and that of two rings alone; SCOPE 56: of loops of different modes 11
 pub data Related (h o : Header) : Told → Type 0 where
-  related : {t : Told} → Answers 5 t → Related h o t
-  each-in-other : h .state ≡ Ring → o .state ≡ Ring → Related h o (refused 7)
+  related : {t : Told} → h .mode ≡ o .mode → Answers 5 t → Related h o t
+  each-in-other : h .mode ≡ o .mode → h .state ≡ Ring → o .state ≡ Ring → Related h o (refused 7)
+  modes-differ : (h .mode ≡ o .mode → ⊥) → Related h o (refused 11)
 
--- SCOPE 25, 27: of loops as built; for a query that is fine, an output with room and a triangle slice in threes
+-- SCOPE 25, 27: of loops as built in either mode; for a query that is fine, an output with room and a triangle slice in threes
 pub record Built : Type 0 where
   -- every list of doubles that `build` does not refuse makes one
-  pub build : (l ps ns : List Float) (cs : List ℕ) → Doubles l → refusal l ps ns cs ≡ 0 → (h : Header) × AsBuilt (handedBack h (buildOutcome l ps ns cs))
+  pub build : (mode : Mode) (l ps ns : List Float) (cs : List ℕ) → Doubles l → refusal l ps ns cs ≡ 0 → (h : Header) × AsBuilt (handedBack h (buildOutcome mode l ps ns cs))
+  -- SCOPE 54: its mode is the one it was built in, EMPTY's and FULL's too
+  pub stored-mode : (mode : Mode) (l ps ns : List Float) (cs : List ℕ) (h : Header) → buildOutcome mode l ps ns cs .answer ≡ Build.loop h → h .mode ≡ mode
   -- none of 1 to 4 and 6 is given to the loop itself
   pub loop-fault : (a : Loop) → AsBuilt a → ask loopFault a ≡ 0
   pub contains-position : (a : Loop) → AsBuilt a → (p : Vec3) → faultOf (cleared p) ≡ 0 → Answers 2 (ask placeAnswer a p)
@@ -89,3 +96,6 @@ pub record Built : Type 0 where
   pub ears : (a : Loop) → AsBuilt a → (tris : List ℕ) → a .header .state ≡ Ring → 3 * (a .header .count - 2) ≤ length tris → Cutting (a .header) (a .positions) (a .classes) tris
   pub accepts : (a : Loop) → AsBuilt a → (tris : List ℕ) → length tris % 3 ≡ 0 → Checked (a .header .state) (acceptsAnswer (a .header) (a .positions) (a .classes) tris)
   pub relate : (a b : Loop) → AsBuilt a → AsBuilt b → Related (a .header) (b .header) (ask (ask relateAnswer a) b)
+  -- SCOPE 24: beside itself a loop is equal where it is full or empty or its cap meets itself; SCOPE 55: in long mode always, as no cap is asked
+  pub relate-itself : (a : Loop) → AsBuilt a → Meets (a .header) → ask (ask relateAnswer a) a ≡ answer 5
+  pub relate-itself-long : (a : Loop) → AsBuilt a → a .header .mode ≡ Long → ask (ask relateAnswer a) a ≡ answer 5

@@ -24,7 +24,7 @@ use Rattle.loop_build.specs.Build.{listFault, roomFault, refusal, ringHeader, i
 use Rattle.loop_ask.specs.Places.{placeWithout}
 use Rattle.loop_ask.specs.Questions.{pairFault, placeAnswer, queryFault}
 use Rattle.loop_triangles.specs.Triangles.{ringOutcome, triangulateOutcome, acceptsAnswer}
-use Rattle.loop_relate.specs.Relations.{byCaps, byStates, relateAnswer}
+use Rattle.loop_relate.specs.Relations.{relateFault, byCaps, byStates, relateAnswer}
 
 -- floats and vectors
 unfoldable pub of-floats : ℕ
@@ -71,5 +71,5 @@ of-checking = 0
 
 -- how two loops stand to each other, but for the edges of rings
 unfoldable pub of-relating : ℕ
-unfolding of-judging of-caps byCaps byStates relateAnswer
+unfolding of-judging of-caps relateFault byCaps byStates relateAnswer
 of-relating = 0

@@ -1,4 +1,5 @@
--- SCOPE 37: the whole list of worked examples as one statement, over the definitions that the contracts cite. Proved in proofs/Theorem.antt. Definitions only.
+-- SCOPE 37: the whole list of worked examples as one statement, over the definitions that the contracts cite; loops are in plain mode. Proved in
+-- proofs/Theorem.antt. Definitions only.
 use Prim.Native.Nat.{ℕ, _*_}
 use mathlib.Core.Path.{_≡_}
 use mathlib.Core.Bool.{Bool, true, false}
@@ -11,6 +12,7 @@ use Rattle.vec3.specs.declared.Vec3.{Vec3}
 use Rattle.vec3.specs.Vec.{cleared, axis-x, axis-y, axis-z, same, coords}
 use Rattle.base.specs.declared.Side.the-variants.{Left, Right, Collinear}
 use Rattle.base.specs.Sides.{sideOf}
+use Rattle.minor_arc.specs.declared.Mode.the-variants.{Plain}
 use Rattle.ring_corners.specs.Corners.{opened}
 use Rattle.loop_header.specs.declared.Header.{Header}
 use Rattle.loop_header.specs.declared.State.{State}
@@ -64,11 +66,11 @@ abbrev pub blank-classes : ℕ → List ℕ
 blank-classes n = replicate n 2
 
 abbrev pub built : List Float → ℕ → Outcome
-built l n = buildOutcome l (blank n) (blank n) (blank-classes n)
+built l n = buildOutcome Plain l (blank n) (blank n) (blank-classes n)
 
 -- the header of a loop that was built
 abbrev pub headerOf : Told → Header
-headerOf (refused k) = emptyHeader
+headerOf (refused k) = emptyHeader Plain
 headerOf (loop h) = h
 
 -- what a reader sees of a ring that was built: state, count and marks, corners and classes
@@ -125,7 +127,7 @@ pub record Settled : Type 0 where
   -- the ring of area 1 is Z, Y, X, all convex; its line says `3 ring reversed steady`
   pub area-1-ring : seen (built area-1 3) ≡ record { state = Ring; count = 3; reversed = true; weak = false; corners = coords axis-z ++ coords axis-y ++ coords axis-x; classes = 0 ∷ 0 ∷ 0 ∷ [] }
   -- X, (0.6,0.8,0), Y is FULL, its slices as they were
-  pub full : built flat-list 3 ≡ kept (loop (fullHeader false)) (blank 3) (blank 3) (blank-classes 3)
+  pub full : built flat-list 3 ≡ kept (loop (fullHeader Plain false)) (blank 3) (blank 3) (blank-classes 3)
   -- (0.6,0,0.8), (0,0.6,0.8), (-0.6,0,0.8), (0,-0.6,0.8) is reversed, and all its corners are convex
   pub four-ring : seen four-built ≡ record { state = Ring; count = 4; reversed = true; weak = false; corners = four-reversed; classes = 0 ∷ 0 ∷ 0 ∷ 0 ∷ [] }
   -- it is cut into (3,0,1), (1,2,3)

@@ -56,6 +56,11 @@ within Endpoint = true
 within Interior = true
 within Exterior = false
 
+abbrev pub interior : Location → Bool
+interior Endpoint = false
+interior Interior = true
+interior Exterior = false
+
 unfoldable pub onArc : MinorArc → Vec3 → Bool
 onArc a p = near (dot p (a .normal)) zero && within (locationOf a p)
 

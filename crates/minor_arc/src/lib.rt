@@ -2,6 +2,7 @@
 // The functions of crate `arcs` judge what they are handed; those here do not, and are what loops call.
 ghost use mathlib.Core.Path.{_≡_};
 ghost use Rattle.vec3.specs.Vec.{stableUnit};
+ghost use Rattle.signs.specs.Mirrors.{Stored};
 ghost use Rattle.minor_arc.specs.Arcs as Arcs;
 use base::Side;
 use vec3::Point;
@@ -59,6 +60,16 @@ pub fn is_within(l: Location) -> bool
     match l {
         Location::Exterior => false,
         Location::Endpoint => true,
+        Location::Interior => true,
+    }
+}
+
+fn is_interior(l: Location) -> bool
+    ensures { λ r. ⌜ r ≡ Arcs.interior l ⌝ }
+{
+    match l {
+        Location::Exterior => false,
+        Location::Endpoint => false,
         Location::Interior => true,
     }
 }
@@ -186,24 +197,36 @@ impl MinorArc {
         }
     }
 
+    // What this arc has in p with another, on which p lies at l.
+    fn met(self, p: Vec3, l: Location) -> Meeting
+        ensures { λ r. ⌜ r ≡ Arcs.meetAt p l (Arcs.locationOf self p) ⌝ }
+    {
+        if let Location::Exterior = l {
+            return Meeting::Apart;
+        }
+        meet_at(p, l, self.location(p))
+    }
+
     fn meeting_in(self, o: MinorArc, p: Vec3) -> Meeting
         ensures { λ r. ⌜ r ≡ Arcs.meetingIn self o p ⌝ }
     {
-        let a = self.location(p);
-        if let Location::Exterior = a {
-            return Meeting::Apart;
-        }
-        meet_at(p, a, o.location(p))
+        o.met(p, self.location(p))
     }
 
-    // By the points that the mode tries.
+    // By the points that the mode tries. What is interior to this arc has its opposite exterior to it, which is not looked at then.
     fn tried(self, mode: Mode, o: MinorArc, p: Vec3) -> Meeting
+        requires { ⌜ Stored p ⌝ }
         ensures { λ r. ⌜ r ≡ Arcs.tried mode self o p ⌝ }
     {
-        let m = self.meeting_in(o, p);
+        let l = self.location(p);
+        let m = o.met(p, l);
         match mode {
             Mode::Plain => m,
-            Mode::Long => better(m, self.meeting_in(o, p.neg())),
+            Mode::Long => if is_interior(l) {
+                m
+            } else {
+                better(m, self.meeting_in(o, p.neg()))
+            },
         }
     }
 

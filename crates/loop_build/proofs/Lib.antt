@@ -4,3 +4,4 @@ pub mod Outs
 pub mod Unique
 pub mod Exact
 pub mod Builts
+pub mod Modes

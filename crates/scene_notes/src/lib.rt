@@ -4,6 +4,7 @@ ghost use Prim.Native.Nat.{_+_, _*_, _≤_, _<_};
 ghost use lib.ListN.{length, getD};
 ghost use Rattle.scene_store.specs.Store as St;
 ghost use Rattle.scene_notes.specs.Noted as N;
+use minor_arc::Mode;
 use scene_records::Fault;
 use scene_store::Area;
 
@@ -54,7 +55,7 @@ pub fn fresh() -> Notes
     let nobody = Area {
         number: 0,
         start: 0,
-        header: loop_header::empty(),
+        header: loop_header::empty(Mode::Plain),
     };
     Notes {
         at: 0,

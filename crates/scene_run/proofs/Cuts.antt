@@ -16,6 +16,7 @@ use Rattle.ring_turns.specs.Turns.{turnSum}
 use Rattle.ring_corners.specs.Corners.{reversal, cornerAt, ringOf, classesOf, allBoth}
 use Rattle.vec3.proofs.Arrays.{size}
 use Rattle.ring_cut.specs.Cut as C
+use Rattle.minor_arc.specs.declared.Mode.the-variants.{Plain}
 use Rattle.loop_header.specs.declared.Header.{Header}
 use Rattle.loop_header.specs.Loops.{emptyHeader, fullHeader, threesOf, shapeFault, classesFault, ringFault, cutFault}
 use Rattle.loop_build.specs.Build.{Doubles, loop, openedCount, listFault, refusal, ringHeader, madeIf, made, outcomeOf, outcomeIf, outcomeBy, buildOutcome}
@@ -45,11 +46,11 @@ answered n k e f = absurd (let z : _≡_ {A = ℕ} 0 1 = cc in omega arith)
 same : {a b : Header} → loop a ≡ loop b → a ≡ b
 same e = cc
 
-empty-is : triangulateOutcome emptyHeader [] [] blank .answer ≡ answer 0
+empty-is : triangulateOutcome (emptyHeader Plain) [] [] blank .answer ≡ answer 0
 unfolding triangulateOutcome cutFault shapeFault threesOf ringFault classesFault firstOf
 empty-is = refl
 
-full-is : (w : Bool) → triangulateOutcome (fullHeader w) [] [] blank .answer ≡ answer 20
+full-is : (w : Bool) → triangulateOutcome (fullHeader Plain w) [] [] blank .answer ≡ answer 20
 unfolding triangulateOutcome cutFault shapeFault threesOf ringFault classesFault firstOf fullOutcome
 full-is w = rw (le-ltb (length blank) 60 (omega (arith, blank-size)))
 
@@ -62,41 +63,41 @@ abbrev cutAs : ℕ → List Float → List ℕ → Header → B.Outcome → Told
 cutAs used ps cs h o = triangulateOutcome h (take (3 * h .count) (drop (3 * used) (take (3 * used) ps ++ o .positions))) (take (h .count) (drop used (take used cs ++ o .classes))) blank .answer
 
 module _ (l : List Float) (d : Doubles l) (used : ℕ) (ps ns : List Float) (cs : List ℕ) (p : 3 * used ≤ length ps) (c : used ≤ length cs) (k : ℕ) where
-  ring-eight : (r : Bool) (n : ℕ) → n ≡ openedCount l → 3 ≤ n → listFault l ≡ 0 → triangulateOutcome (ringHeader l n r) (ringOf l n r) (classesOf l n r) blank .answer ≡ refused k → k ≡ 8
+  ring-eight : (r : Bool) (n : ℕ) → n ≡ openedCount l → 3 ≤ n → listFault l ≡ 0 → triangulateOutcome (ringHeader Plain l n r) (ringOf l n r) (classesOf l n r) blank .answer ≡ refused k → k ≡ 8
   unfolding ringHeader
   ring-eight r n o g f e =
       let m : 3 * (length (classesOf l n r) - 2) ≤ length blank = omega (arith, codes-count l n r, list-fine l f .small, o, blank-size) in
-      let q = cut-is (ringHeader l n r) (ringOf l n r) (classesOf l n r) blank (built-cuttable l d f r n o g) refl m in
+      let q = cut-is (ringHeader Plain l n r) (ringOf l n r) (classesOf l n r) blank (built-cuttable l d f r n o Plain g) refl m in
       told-eight (C.cutRingOutcome (ringOf l n r) (classesOf l n r) blank .answer) (length (classesOf l n r) - 2) k (sym (ap (λ (x : T.Outcome). x .answer) q) ∙ e)
 
   module _ {h : Header} where
     of-made : (b : Bool) (r : Bool) (n : ℕ) → n ≡ openedCount l → 3 ≤ n → listFault l ≡ 0 → (ns′ : List Float)
-        → loop h ≡ loop (madeIf b l n r (drop (3 * used) ps) ns′ (drop used cs) .header) → cutAs used ps cs h (outcomeOf (madeIf b l n r (drop (3 * used) ps) ns′ (drop used cs))) ≡ refused k → k ≡ 8
+        → loop h ≡ loop (madeIf b Plain l n r (drop (3 * used) ps) ns′ (drop used cs) .header) → cutAs used ps cs h (outcomeOf (madeIf b Plain l n r (drop (3 * used) ps) ns′ (drop used cs))) ≡ refused k → k ≡ 8
     unfolding ringHeader
     of-made true r n o g f ns′ e z =
-        let y : triangulateOutcome (fullHeader (weak (turnSum l n))) [] [] blank .answer ≡ refused k = rw (same e) at z in
+        let y : triangulateOutcome (fullHeader Plain (weak (turnSum l n))) [] [] blank .answer ≡ refused k = rw (same e) at z in
         answered 20 k (full-is (weak (turnSum l n))) y
     of-made false r n o g f ns′ e z =
-        let y : triangulateOutcome (ringHeader l n r) (take (3 * n) (drop (3 * used) (take (3 * used) ps ++ (ringOf l n r ++ drop (3 * n) (drop (3 * used) ps)))))
+        let y : triangulateOutcome (ringHeader Plain l n r) (take (3 * n) (drop (3 * used) (take (3 * used) ps ++ (ringOf l n r ++ drop (3 * n) (drop (3 * used) ps)))))
         (take n (drop used (take used cs ++ (classesOf l n r ++ drop n (drop used cs))))) blank .answer ≡ refused k = rw (same e) at z in
         let u = part (3 * used) (3 * n) (take (3 * used) ps) (ringOf l n r) (drop (3 * n) (drop (3 * used) ps)) (length-take-le (3 * used) ps p) (size (cornerAt l n r) n) in
         let v = part used n (take used cs) (classesOf l n r) (drop n (drop used cs)) (length-take-le used cs c) (codes-count l n r) in
         ring-eight r n o g f (rw (u, v) at y)
 
     of-if : (b : Bool) (n : ℕ) → ltb n 3 ≡ b → n ≡ openedCount l → listFault l ≡ 0
-        → loop h ≡ outcomeIf b l n (drop (3 * used) ps) (drop (3 * used) ns) (drop used cs) .answer → cutAs used ps cs h (outcomeIf b l n (drop (3 * used) ps) (drop (3 * used) ns) (drop used cs)) ≡ refused k → k ≡ 8
+        → loop h ≡ outcomeIf b Plain l n (drop (3 * used) ps) (drop (3 * used) ns) (drop used cs) .answer → cutAs used ps cs h (outcomeIf b Plain l n (drop (3 * used) ps) (drop (3 * used) ns) (drop used cs)) ≡ refused k → k ≡ 8
     unfolding made
     of-if true n t o f e z =
-        let y : triangulateOutcome emptyHeader [] [] blank .answer ≡ refused k = rw (same e) at z in
+        let y : triangulateOutcome (emptyHeader Plain) [] [] blank .answer ≡ refused k = rw (same e) at z in
         answered 0 k empty-is y
     of-if false n t o f e z = of-made (allBoth (classesOf l n (reversal l n))) (reversal l n) n o (ltb-false _ _ t) f (drop (3 * used) ns) e z
 
     of-refusal : (i : ℕ) → refusal l (drop (3 * used) ps) (drop (3 * used) ns) (drop used cs) ≡ i
-        → loop h ≡ outcomeBy i l (drop (3 * used) ps) (drop (3 * used) ns) (drop used cs) .answer → cutAs used ps cs h (outcomeBy i l (drop (3 * used) ps) (drop (3 * used) ns) (drop used cs)) ≡ refused k → k ≡ 8
+        → loop h ≡ outcomeBy i Plain l (drop (3 * used) ps) (drop (3 * used) ns) (drop used cs) .answer → cutAs used ps cs h (outcomeBy i Plain l (drop (3 * used) ps) (drop (3 * used) ns) (drop used cs)) ≡ refused k → k ≡ 8
     of-refusal zero t e z = of-if (ltb (openedCount l) 3) (openedCount l) refl refl (fine l (drop (3 * used) ps) (drop (3 * used) ns) (drop used cs) t .0) e z
     of-refusal (suc i) t e z = absurd (let x : _≡_ {A = ℕ} 0 1 = cc in omega arith)
 
-    of-list : loop h ≡ builtAt l used ps ns cs .answer → cutAs used ps cs h (buildOutcome l (drop (3 * used) ps) (drop (3 * used) ns) (drop used cs)) ≡ refused k → k ≡ 8
+    of-list : loop h ≡ builtAt l used ps ns cs .answer → cutAs used ps cs h (buildOutcome Plain l (drop (3 * used) ps) (drop (3 * used) ns) (drop used cs)) ≡ refused k → k ≡ 8
     unfolding builtAt buildOutcome
     of-list e z = of-refusal (refusal l (drop (3 * used) ps) (drop (3 * used) ns) (drop used cs)) refl e z
 

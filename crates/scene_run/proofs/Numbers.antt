@@ -144,12 +144,12 @@ pub record Small (line : Line) : Type 0 where
 abbrev pub StepSmall : Step → Type 0
 StepSmall ended = Unit {0}
 StepSmall (faulty f field) = field < 100000
-StepSmall (S.refused k) = k ≤ 9
-StepSmall (refusedAt k index) = (k ≤ 9) × (index ≤ 1024)
+StepSmall (S.refused k) = k ≤ 11
+StepSmall (refusedAt k index) = (k ≤ 11) × (index ≤ 1024)
 StepSmall (wrote line next) = Small line
 
 -- a call's own refusal, with the index of a position where it has one
-refusal-by : (b : Bool) (k index : ℕ) → k ≤ 9 → index ≤ 1024 → StepSmall (cond b (refusedAt k index) (S.refused k))
+refusal-by : (b : Bool) (k index : ℕ) → k ≤ 11 → index ≤ 1024 → StepSmall (cond b (refusedAt k index) (S.refused k))
 refusal-by true k index h g = (h, g)
 refusal-by false k index h g = h
 
@@ -157,13 +157,13 @@ index-small : (s : List ℕ) (at count : ℕ) → count ≤ 1024 → firstRefuse
 unfolding firstRefused
 index-small s at count h = omega (arith, firstAt-le (isRefused (floatsAt s at count)) count 0)
 
-refusal-small : (s : List ℕ) (at count k : ℕ) → count ≤ 1024 → k ≤ 9 → StepSmall (refusal k (firstRefused (floatsAt s at count) count))
+refusal-small : (s : List ℕ) (at count k : ℕ) → count ≤ 1024 → k ≤ 11 → StepSmall (refusal k (firstRefused (floatsAt s at count) count))
 unfolding refusal
 refusal-small s at count k h g = refusal-by (ofPositions k) k _ g (index-small s at count h)
 
 -- what is said of a place
 abbrev SaidSmall : Said → Type 0
-SaidSmall (Said.Refused k) = k ≤ 9
+SaidSmall (Said.Refused k) = k ≤ 11
 SaidSmall (Said.Line line) = Small line
 
 place-small : (s : List ℕ) (w : Scene) (t : Said) → SaidSmall t → StepSmall (placeTold s w t)

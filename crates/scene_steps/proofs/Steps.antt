@@ -11,6 +11,7 @@ use lib.Dec.{ltb}
 use lib.Ieee.{Float}
 use Rattle.vec3.specs.declared.Vec3.{Vec3}
 use Rattle.wire.specs.Wire.{vecOf}
+use Rattle.minor_arc.specs.declared.Mode.the-variants.{Plain}
 use Rattle.loop_header.specs.declared.Header.{Header}
 use Rattle.loop_build.specs.declared.Built.{Built}
 use Rattle.loop_build.specs.declared.Built.the-variants as Built
@@ -134,11 +135,11 @@ module _ {s : List ℕ} {c : Notes} {size : ℕ} {ps ns : List Float} {cs : List
 
 -- ---- a build that is refused leaves the store as it was
 module _ (l qs ms : List Float) (ds : List ℕ) {k : ℕ} where
-  kept-if : (b : Bool) (n : ℕ) → B.refused k ≡ B.outcomeIf b l n qs ms ds .answer → B.outcomeIf b l n qs ms ds ≡ B.kept (B.refused k) qs ms ds
+  kept-if : (b : Bool) (n : ℕ) → B.refused k ≡ B.outcomeIf b Plain l n qs ms ds .answer → B.outcomeIf b Plain l n qs ms ds ≡ B.kept (B.refused k) qs ms ds
   kept-if true n e = absurd (let z : _≡_ {A = ℕ} 0 1 = cc in omega arith)
   kept-if false n e = absurd (let z : _≡_ {A = ℕ} 0 1 = cc in omega arith)
 
-  kept-by : (i : ℕ) → B.refused k ≡ B.outcomeBy i l qs ms ds .answer → B.outcomeBy i l qs ms ds ≡ B.kept (B.refused k) qs ms ds
+  kept-by : (i : ℕ) → B.refused k ≡ B.outcomeBy i Plain l qs ms ds .answer → B.outcomeBy i Plain l qs ms ds ≡ B.kept (B.refused k) qs ms ds
   kept-by zero e = kept-if (ltb (B.openedCount l) 3) (B.openedCount l) e
   kept-by (suc i) e = ap (λ (t : B.Told). B.kept t qs ms ds) (sym e)
 

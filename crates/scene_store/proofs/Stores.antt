@@ -7,6 +7,7 @@ use lib.ListN.{length, take, drop}
 use lib.Ieee.{Float}
 use Rattle.laws.proofs.Rests.{rest, back}
 use Rattle.vec3.specs.declared.Vec3.{Vec3}
+use Rattle.minor_arc.specs.declared.Mode.the-variants.{Plain}
 use Rattle.loop_build.specs.Build.{buildOutcome}
 use Rattle.loop_build.specs.Build as B
 use Rattle.loop_ask.specs.Answers.{Told}
@@ -50,7 +51,7 @@ cut a ps cs b e q h = h ∙ ap (λ (o : Cut.Outcome). counted (o .answer)) (rw (
 -- what a build left in the rest
 pub built : {l : List Float} {a : B.Told} {ps′ ns′ : List Float} {cs′ : List ℕ} (f : List Float) (used : ℕ) (ps ns : List Float) (cs : List ℕ) → l ≡ f
     → record { answer = a; positions = ps′; normals = ns′; classes = cs′ }
-    ≡ buildOutcome l (take (length ps - 3 * used) (drop (3 * used) ps)) (take (length ns - 3 * used) (drop (3 * used) ns)) (take (length cs - used) (drop used cs))
+    ≡ buildOutcome Plain l (take (length ps - 3 * used) (drop (3 * used) ps)) (take (length ns - 3 * used) (drop (3 * used) ns)) (take (length cs - used) (drop used cs))
     → record {
       answer = a;
       positions = take (3 * used) ps ++ (ps′ ++ drop (length ps - 3 * used) (drop (3 * used) ps));

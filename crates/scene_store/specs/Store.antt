@@ -1,10 +1,11 @@
--- SCOPE 28: areas in one lent store, the ring of each in the rest that was unused. Definitions only.
+-- SCOPE 28: areas in one lent store, the ring of each in the rest that was unused. SCOPE 54: they are built in plain mode. Definitions only.
 use Prim.Native.Nat.{ℕ, _+_, _*_, _≤_}
 use mathlib.Core.Path.{_≡_}
 use mathlib.Core.List.{List, _++_}
 use lib.ListN.{length, take, drop, replicate}
 use lib.Ieee.{Float}
 use Rattle.vec3.specs.declared.Vec3.{Vec3}
+use Rattle.minor_arc.specs.declared.Mode.the-variants.{Plain}
 use Rattle.loop_header.specs.Loops.{emptyHeader}
 use Rattle.loop_build.specs.Build.{Outcome, buildOutcome}
 use Rattle.loop_ask.specs.Answers.{Told, refused, answer}
@@ -15,7 +16,7 @@ use Rattle.scene_store.specs.declared.Area.{Area}
 
 -- where no area stands
 abbrev pub nobody : Area
-nobody = record { number = 0; start = 0; header = emptyHeader }
+nobody = record { number = 0; start = 0; header = emptyHeader Plain }
 
 -- an area's own part of a store: three floats, or a class code, for each corner
 abbrev pub corners : Area → List Float → List Float
@@ -34,7 +35,7 @@ after used ps ns cs o = record {
 }
 
 unfoldable pub builtAt : List Float → ℕ → List Float → List Float → List ℕ → Outcome
-builtAt l used ps ns cs = after used ps ns cs (buildOutcome l (drop (3 * used) ps) (drop (3 * used) ns) (drop used cs))
+builtAt l used ps ns cs = after used ps ns cs (buildOutcome Plain l (drop (3 * used) ps) (drop (3 * used) ns) (drop used cs))
 
 -- room for the triangles of any area
 unfoldable pub blank : List ℕ

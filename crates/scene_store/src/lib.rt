@@ -13,6 +13,7 @@ use loop_build::Built;
 use loop_header::Header;
 use loop_relate::Related;
 use loop_triangles::Cut;
+use minor_arc::Mode;
 use vec3::Vec3;
 
 // An area that was met: its number, where its ring starts in the store, and its header.
@@ -39,6 +40,7 @@ fn build_from(
     wire::read_floats(s, at, list);
     let from = 3 * used;
     loop_build::build(
+        Mode::Plain,
         list,
         &mut positions[from..],
         &mut normals[from..],

@@ -9,6 +9,8 @@ use lib.ListN.{length}
 use lib.Ieee.{Float}
 use Rattle.laws.proofs.Firsts.{firstOf-zero, firstOf-fine}
 use Rattle.angle.specs.Angles.{weak, clockwise}
+use Rattle.minor_arc.specs.declared.Mode.{Mode}
+use Rattle.minor_arc.specs.declared.Mode.the-variants.{Plain}
 use Rattle.judge.specs.Judge.{positionFault, positionsFault}
 use Rattle.exact_angles.proofs.Sums.{not-both}
 use Rattle.ring_turns.specs.Turns.{turnSum}
@@ -34,7 +36,7 @@ is-loop (refused k) = false
 is-loop (loop h) = true
 
 header-of : Told → Header
-header-of (refused k) = emptyHeader
+header-of (refused k) = emptyHeader Plain
 header-of (loop h) = h
 
 is-ring : State → Bool
@@ -67,9 +69,9 @@ module _ (l : List Float) (few : openedCount l ≤ 512) (all : positionsFault l 
   one-side : SumAbove l (openedCount l) → SumBelow l (openedCount l) → ⊥
   one-side a b = not-both (turnPairs l (openedCount l)) (turns-aimed l (openedCount l) all) 48 (a 48 (lit≤ tt)) (b 48 (lit≤ tt))
 
-  ring : (h : Header) → ringHeader l (openedCount l) (reversal l (openedCount l)) ≡ h → h .weak ≡ false → Directed l h
+  ring : (mode : Mode) (h : Header) → ringHeader mode l (openedCount l) (reversal l (openedCount l)) ≡ h → h .weak ≡ false → Directed l h
   unfolding ringHeader reversal
-  ring h q w =
+  ring mode h q w =
       let sum = turnSum l (openedCount l) in
       let steady : weak sum ≡ false = ap (λ (x : Header). x .weak) q ∙ w in
       let mark : not (clockwise sum) ≡ h .reversed = ap (λ (x : Header). x .reversed) q in
@@ -83,23 +85,23 @@ module _ (l : List Float) (few : openedCount l ≤ 512) (all : positionsFault l 
       }
 
 -- ---- by the refusal, the opened count and the classes
-pub directed : (l ps ns : List Float) (cs : List ℕ) (h : Header) → buildOutcome l ps ns cs .answer ≡ loop h → h .state ≡ Ring → h .weak ≡ false → Directed l h
+pub directed : (mode : Mode) (l ps ns : List Float) (cs : List ℕ) (h : Header) → buildOutcome mode l ps ns cs .answer ≡ loop h → h .state ≡ Ring → h .weak ≡ false → Directed l h
 unfolding buildOutcome
-directed l ps ns cs h e s w = by-refusal (refusal l ps ns cs) refl e
+directed mode l ps ns cs h e s w = by-refusal (refusal l ps ns cs) refl e
   where
     n : ℕ
     n = openedCount l
 
-    by-classes : Listed l → (both : Bool) → loop (madeIf both l n (reversal l n) ps ns cs .header) ≡ loop h → Directed l h
+    by-classes : Listed l → (both : Bool) → loop (madeIf both mode l n (reversal l n) ps ns cs .header) ≡ loop h → Directed l h
     by-classes r true q = absurd (not-ring h _ q s (unfold is-ring in refl))
     by-classes r false q =
         let all = fewer-fine l (length l / 3) n (opened-le l (length l / 3)) (r .positions-fine) in
-        ring l (r .small) all h (unfold header-of in ap header-of q) w
+        ring l (r .small) all mode h (unfold header-of in ap header-of q) w
 
-    by-count : Listed l → (empty : Bool) → outcomeIf empty l n ps ns cs .answer ≡ loop h → Directed l h
-    by-count r true q = absurd (not-ring h emptyHeader q s (unfold is-ring in refl))
+    by-count : Listed l → (empty : Bool) → outcomeIf empty mode l n ps ns cs .answer ≡ loop h → Directed l h
+    by-count r true q = absurd (not-ring h (emptyHeader mode) q s (unfold is-ring in refl))
     by-count r false q = unfold made in by-classes r (allBoth (classesOf l n (reversal l n))) q
 
-    by-refusal : (k : ℕ) → refusal l ps ns cs ≡ k → outcomeBy k l ps ns cs .answer ≡ loop h → Directed l h
+    by-refusal : (k : ℕ) → refusal l ps ns cs ≡ k → outcomeBy k mode l ps ns cs .answer ≡ loop h → Directed l h
     by-refusal zero p q = by-count (list-fine l (fine l ps ns cs p .0)) (ltb n 3) q
     by-refusal (suc k) p q = unfold is-loop in absurd (subst T (sym (ap is-loop q)) tt)

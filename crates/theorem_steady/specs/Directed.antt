@@ -7,6 +7,7 @@ use mathlib.Core.List.{List}
 use lib.Ieee.{Float}
 use Rattle.numbers.specs.F64 as F64
 use Rattle.angle.specs.Angles.{weak, clockwise}
+use Rattle.minor_arc.specs.declared.Mode.{Mode}
 use Rattle.judge.specs.Judge.{positionsFault}
 use Rattle.exact_angles.specs.Steady.{total, AllAimed, lowSum, highSum, Above, Below}
 use Rattle.ring_turns.specs.Turns.{turnSum}
@@ -38,5 +39,5 @@ pub record SteadyLoops : Type 0 where
   -- SCOPE 44: where the sum is not weak, the exact sum is on its side of 0: below it where the list is kept, above it where it is reversed
   pub steady-kept : (l : List Float) (n : ℕ) → n ≤ 512 → positionsFault l n ≡ 0 → weak (turnSum l n) ≡ false → clockwise (turnSum l n) ≡ true → SumBelow l n
   pub steady-reversed : (l : List Float) (n : ℕ) → n ≤ 512 → positionsFault l n ≡ 0 → weak (turnSum l n) ≡ false → clockwise (turnSum l n) ≡ false → SumAbove l n
-  -- SCOPE 45: of every list and lent slices, from the answer alone. Of EMPTY and FULL nothing is said: their `reversed` is false by SCOPE 15.
-  pub directed : (l ps ns : List Float) (cs : List ℕ) (h : Header) → buildOutcome l ps ns cs .answer ≡ loop h → h .state ≡ Ring → h .weak ≡ false → Directed l h
+  -- SCOPE 45: of every list and lent slices, in either mode (SCOPE 54), from the answer alone. Of EMPTY and FULL nothing is said: their `reversed` is false by SCOPE 15.
+  pub directed : (mode : Mode) (l ps ns : List Float) (cs : List ℕ) (h : Header) → buildOutcome mode l ps ns cs .answer ≡ loop h → h .state ≡ Ring → h .weak ≡ false → Directed l h

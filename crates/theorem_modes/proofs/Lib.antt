@@ -1,2 +1,4 @@
+pub mod Computing
+pub mod Rings
 pub mod Plains
 pub mod Longs

@@ -1,5 +1,5 @@
 -- Wrong bounds, marks and sums of angles are refuted by computing both sides at one input. Assumes nothing.
-use Prim.Native.Nat.{ℕ, _-_, _≤_, _<_}
+use Prim.Native.Nat.{ℕ, _-_, _≤_}
 use native.Mathlib.Nat.{le-of-eq}
 use mathlib.Core.Path.{_≡_, refl, sym, ap, _∙_, subst}
 use mathlib.Core.Bool.{true, false}
@@ -10,6 +10,7 @@ use lib.Ieee.{Float, binary64, toBits}
 use Rattle.numbers.specs.F64 as F64
 use Rattle.numbers.specs.F64.{two}
 use Rattle.angle.specs.Arctan.{atan2}
+use Rattle.minor_arc.specs.declared.Mode.the-variants.{Plain}
 use Rattle.exact_angles.specs.Exact.{coef, power, term, partial, slope, first, around, quarter, Within, AlwaysNear}
 use Rattle.exact_angles.specs.Steady.{lowSum, highSum, total, Decides}
 use Rattle.exact_angles.proofs.Total.{placed}
@@ -65,14 +66,14 @@ sine-for-cosine h =
     not-at-most (toBits binary64 (turnSum area-1 3 .0)) (toBits binary64 (total F64.zero (exchanged (turnPairs area-1 3)))) refl
     (le-of-eq (ap (toBits binary64) (h area-1 3)))
 
-reversed-for-kept : ((l ps ns : List Float) (cs : List ℕ) (h : Header) → buildOutcome l ps ns cs .answer ≡ loop h → h .state ≡ Ring → h .weak ≡ false
+reversed-for-kept : ((l ps ns : List Float) (cs : List ℕ) (h : Header) → buildOutcome Plain l ps ns cs .answer ≡ loop h → h .state ≡ Ring → h .weak ≡ false
     → h .reversed ≡ true → SumBelow l (openedCount l)) → ⊥
 unfolding of-exact of-building pairsFrom sineAt cosineAt
 reversed-for-kept h = not-at-most _ _ refl (h area-1 (blank 3) (blank 3) (blank-classes 3) _ (ap (λ (o : Outcome). o .answer) area-1-built) refl refl refl 48 (lit≤ tt))
 
-of-every-state : ((l ps ns : List Float) (cs : List ℕ) (h : Header) → buildOutcome l ps ns cs .answer ≡ loop h → h .weak ≡ false → Directed l h) → ⊥
+of-every-state : ((l ps ns : List Float) (cs : List ℕ) (h : Header) → buildOutcome Plain l ps ns cs .answer ≡ loop h → h .weak ≡ false → Directed l h) → ⊥
 unfolding of-exact of-building pairsFrom
-of-every-state h = not-at-most _ _ refl (h [] [] [] [] emptyHeader refl refl .kept refl 48 (lit≤ tt))
+of-every-state h = not-at-most _ _ refl (h [] [] [] [] (emptyHeader Plain) refl refl .kept refl 48 (lit≤ tt))
 
 pub of-angles : OfAngles
 of-angles = record {

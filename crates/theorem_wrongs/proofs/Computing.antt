@@ -1,30 +1,12 @@
--- What the wrong programs of rings above three and of two rings are computed with, beside theorem_settled/proofs/Computing. Assumes nothing.
+-- What the wrong programs of rings above three are computed with, beside theorem_settled/proofs/Computing and theorem_modes/proofs/Computing. Assumes nothing.
 use Prim.Native.Nat.{ℕ}
-use Rattle.laws.specs.Loop.{firstAt}
-use Rattle.vec3.specs.Points.{triangleMean, midpoint}
-use Rattle.minor_arc.specs.Arcs.{arcSide, locationOf, onArc, nearer, meetingIn, meetingOf}
-use Rattle.arc_relations.specs.Relations.{pushed, considered, spanOf, collinearOf, relationOf}
-use Rattle.ring_edges.specs.Edges.{edgeAt, onEdge}
+use Rattle.vec3.specs.Points.{triangleMean}
 use Rattle.ring_insides.specs.Insides.{withMeans}
 use Rattle.ring_place.specs.Places.{metAt, crossedEvenly, from, insideBy}
-use Rattle.ring_shape.specs.Shapes.{agree, beside, allAgree, sameRings}
-use Rattle.ring_pair.specs.Contacts.{anyCrosses, anyTouches, contactOf}
-use Rattle.ring_pair.specs.Probes.{freeCorner, middleAt, firstCorner, firstMiddle, askedMidpoint, middleProbe, unambiguousPoint}
-use Rattle.loop_ask.specs.Questions.{equivalentLoops}
-use Rattle.loop_relate.specs.Relations.{liesIn, byEdges}
 use Rattle.theorem_settled.proofs.Computing as Computing
-
--- how two arcs relate, and the edges of two rings
-unfoldable pub of-arcs : ℕ
-unfolding Computing.of-sides arcSide locationOf onArc nearer meetingIn meetingOf pushed considered spanOf collinearOf relationOf edgeAt onEdge anyCrosses anyTouches contactOf
-of-arcs = 0
+use Rattle.theorem_modes.proofs.Computing.{of-arcs}
 
 -- a place in a ring above three: its insides, and the crossings
 unfoldable pub of-places : ℕ
 unfolding of-arcs Computing.of-asking Computing.of-cutting triangleMean withMeans from metAt crossedEvenly insideBy
 of-places = 0
-
--- how two rings stand to each other
-unfoldable pub of-pairs : ℕ
-unfolding of-arcs Computing.of-asking Computing.of-relating firstAt midpoint agree beside allAgree sameRings freeCorner middleAt firstCorner firstMiddle askedMidpoint middleProbe unambiguousPoint equivalentLoops liesIn byEdges
-of-pairs = 0

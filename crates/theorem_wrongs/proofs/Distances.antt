@@ -9,6 +9,7 @@ use Rattle.numbers.specs.F64 as F64
 use Rattle.arcsine.specs.Arcsine.{arcsine, radians}
 use Rattle.vec3.specs.Vec.{axis-y, axis-z, opposite}
 use Rattle.chord_length.specs.Chords.{squared, most, fromSquaredLength, laterMax, least}
+use Rattle.minor_arc.specs.declared.Mode.the-variants.{Plain}
 use Rattle.minor_arc.specs.Arcs.{locationOf}
 use Rattle.arcs.specs.Answers.{arcFault}
 use Rattle.ring_edges.specs.Edges.{edgeAt}
@@ -16,7 +17,8 @@ use Rattle.loop_build.specs.Build as Build
 use Rattle.loop_distances.specs.Distances.{nearerEnd, pastEnd, byFoot, farArc, farRing, far, Told, refused, chord, arcTold, boundaryTold}
 use Rattle.theorem_settled.specs.Settled.{built, area-1}
 use Rattle.theorem_settled.proofs.Computing as Computing
-use Rattle.theorem_wrongs.proofs.Rings.{ring, area-1-built}
+use Rattle.theorem_modes.proofs.Rings.{ring}
+use Rattle.theorem_wrongs.proofs.Rings.{area-1-built}
 use Rattle.theorem_wrongs.specs.Distances.{x-to-y, between-x-y, behind, long-arc, above-x, short-arc, leaning, inside-area-1, arcBy, ringBy, radiansBy}
 use Rattle.theorem_wrongs.specs.Distances.{toStart, strictlyPast, pastBare, pastEither, toFoot, ArcOtherwise, boundaryOf, RingOtherwise, OfDistances}
 
@@ -64,7 +66,7 @@ unfolding of-arcs
 foot-unasked e = let n : _≡_ {A = ℕ} 0x4000_0000_0000_0000 0 = ap told e in omega (arith, n)
 
 -- ---- from area 1's border, of the ring that was computed once
-of-area-1 : (B : Build.Outcome → Type 0) → B (built area-1 3) → B (ring area-1 3 true (0 ∷ 0 ∷ 0 ∷ []))
+of-area-1 : (B : Build.Outcome → Type 0) → B (built area-1 3) → B (ring Plain area-1 3 true (0 ∷ 0 ∷ 0 ∷ []))
 of-area-1 B b = subst B area-1-built b
 
 farthest-edge : RingOtherwise (λ ps ns n. ringBy laterMax (squared F64.zero) n ps ns n) above-x

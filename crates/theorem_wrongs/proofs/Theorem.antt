@@ -1,8 +1,8 @@
 -- Each named wrong program is refuted by computing the definition at its input. Assumes nothing.
 use Prim.Native.Nat.{ℕ, _+_, _-_, _%_}
 use native.Mathlib.Omega.{arith}
-use mathlib.Core.Path.{_≡_, refl, sym, ap, _∙_, subst}
-use mathlib.Core.Bool.{Bool, true, false}
+use mathlib.Core.Path.{_≡_, refl, sym, ap, _∙_}
+use mathlib.Core.Bool.{true, false}
 use mathlib.Core.List.{List, [], _∷_}
 use lib.ListN.{getD, replicate}
 use lib.Ieee.{Float, binary64, toBits, nan}
@@ -17,6 +17,7 @@ use Rattle.vec3.specs.Vec.{axis-x, axis-y, axis-z}
 use Rattle.vec3.specs.Points.{midpoint}
 use Rattle.base.specs.declared.Side.{Side}
 use Rattle.base.specs.declared.Side.the-variants.{Left, Right, Collinear}
+use Rattle.minor_arc.specs.declared.Mode.the-variants.{Plain}
 use Rattle.judge.specs.Judge.{vectorFault, faultOf}
 use Rattle.ring_turns.specs.Turns.{edgeNormals}
 use Rattle.ring_ears.specs.Ears.{atCut, beforeCut}
@@ -31,26 +32,24 @@ use Rattle.loop_triangles.specs.Triangles.{Outcome, triangulateOutcome}
 use Rattle.loop_relate.specs.Relations.{relateAnswer}
 use Rattle.theorem_settled.specs.Settled.{at, built, blank, blank-classes, area-1, four-corners, four-built, four-checked, full-one, empty-one, related}
 use Rattle.theorem_settled.proofs.Computing as Computing
-use Rattle.theorem_wrongs.proofs.Computing.{of-places, of-pairs}
+use Rattle.theorem_modes.proofs.Computing.{of-pairs}
+use Rattle.theorem_modes.proofs.Rings.{ring}
+use Rattle.theorem_modes.proofs.Longs.{longs}
+use Rattle.theorem_wrongs.proofs.Computing.{of-places}
+use Rattle.theorem_wrongs.proofs.Apart.{told, answered, sure, of-ring, of-two}
 use Rattle.theorem_wrongs.proofs.Angles.{of-angles}
 use Rattle.theorem_wrongs.proofs.Scenes.{of-scenes}
 use Rattle.theorem_wrongs.proofs.Distances.{of-distances}
+use Rattle.theorem_wrongs.proofs.Modes.{of-modes}
 use Rattle.theorem_wrongs.proofs.Cutters.{by-the-rule}
-use Rattle.theorem_wrongs.proofs.Rings.{ring, area-1-built, area-2-built, across-built, in-the-other-built, in-the-one-built}
+use Rattle.theorem_wrongs.proofs.Rings.{area-1-built, area-2-built, across-built}
 use Rattle.theorem_wrongs.proofs.Rings.{one-mean-built, round-z-built, repeated-built, four-corners-built, five-positions-built, to-and-fro-built, ear-at-first-built, ear-at-last-built}
-use Rattle.theorem_wrongs.specs.Wrongs.{in-area-1, to-and-fro, header, placed, cutFrom, cutInto, checked, pair, toFull, classesBySide, one-mean, round-z, muted, fourTo, between, answerAlone}
+use Rattle.theorem_wrongs.specs.Modes.{header, placed}
+use Rattle.theorem_wrongs.specs.Wrongs.{in-area-1, to-and-fro, cutFrom, cutInto, checked, toFull, classesBySide, one-mean, round-z, muted, fourTo, between, answerAlone}
 use Rattle.theorem_wrongs.specs.Wrongs.{cuttingBy, cutBy, everyAfresh, neighbours, cutOutcome}
 use Rattle.theorem_wrongs.specs.Wrongs.{OutsideAlways, DisjointAlways, BlankRing, Fan, EmptyPrograms, Traps, OfNumbers, OfBuilding, OfAsking, OfCutting, OfNeighbours, OfRelating, OfMute, OfContracts, Wrongs}
 
--- what tells two values apart
-abbrev told : Answers.Told → ℕ
-told (Answers.refused k) = 100 + k
-told (Answers.answer n) = n
-
-abbrev answered : Answers.Told → ℕ
-answered (Answers.refused k) = 0
-answered (Answers.answer n) = 1
-
+-- what tells two values apart, beside proofs/Apart
 abbrev built-as : Build.Told → ℕ
 built-as (Build.refused k) = 0
 built-as (Build.loop h) = 1
@@ -59,10 +58,6 @@ abbrev side : Side → ℕ
 side Left = 0
 side Right = 1
 side Collinear = 2
-
-abbrev sure : Bool → ℕ
-sure false = 0
-sure true = 1
 
 abbrev inner : Insides → ℕ
 inner Absent = 0
@@ -82,10 +77,6 @@ below m n k d e = omega (arith, d, e)
 above : (m n k : ℕ) → n + k + 1 ≡ m → m ≡ n → ⊥
 above m n k d e = omega (arith, d, e)
 
--- what is said of a ring as built, of the ring that was computed once
-of-ring : {o p : Build.Outcome} → o ≡ p → (B : Build.Outcome → Type 0) → B o → B p
-of-ring q B b = subst B q b
-
 outside-always : OutsideAlways
 unfolding of-places
 outside-always = record {
@@ -94,9 +85,6 @@ outside-always = record {
   in-the-full-loop = λ e. above 1 0 0 refl (ap told e);
   of-a-mute-loop = λ e. above 2 0 1 refl (ap told (of-ring one-mean-built (λ o. placed o axis-y ≡ Answers.answer 0) e));
 }
-
-of-two : {o p x y : Build.Outcome} → o ≡ p → x ≡ y → (t : Answers.Told) → pair o x ≡ t → pair p y ≡ t
-of-two {o} {p} {x} {y} q r t e = of-ring r (λ z. pair p z ≡ t) (of-ring q (λ z. pair z x ≡ t) e)
 
 -- area 1 to the full loop is Within, and the full loop to the empty one Containing
 to-full : told (toFull (built area-1 3)) ≡ 4
@@ -198,7 +186,7 @@ of-asking = record {
 }
 
 -- what the checker says of a list for the four corners
-four-no : (triples : List ℕ) → told (checked (ring four-corners 4 true (0 ∷ 0 ∷ 0 ∷ 0 ∷ [])) triples) ≡ 0 → four-checked triples ≡ Answers.answer 1 → ⊥
+four-no : (triples : List ℕ) → told (checked (ring Plain four-corners 4 true (0 ∷ 0 ∷ 0 ∷ 0 ∷ [])) triples) ≡ 0 → four-checked triples ≡ Answers.answer 1 → ⊥
 four-no triples refuted e = below 0 1 0 refl (sym refuted ∙ ap told (of-ring four-corners-built (λ o. checked o triples ≡ Answers.answer 1) e))
 
 of-cutting : OfCutting
@@ -247,7 +235,7 @@ of-relating = record {
   full-equals-empty = λ e. below 3 5 1 refl (ap told (sym full-to-empty ∙ e));
   empty-within = λ e. below 0 4 3 refl (ap told e);
   containing-for-within = λ e. above 4 3 0 refl (sym to-full ∙ ap told e);
-  no-seven = λ n e. below 0 1 0 refl (ap answered (of-two in-the-other-built in-the-one-built (Answers.answer n) e));
+  no-seven = λ n e. below 0 1 0 refl (ap answered (sym (longs .of-loops .seven) ∙ e));
   second-loop-first = λ e. below 101 106 4 refl (ap told (of-ring four-corners-built (λ o. beside-area-1 o ≡ Answers.refused 6) e));
 }
 
@@ -285,7 +273,7 @@ of-contracts = record { buffer-left-open = left-open }
   where
     left-open : One Triangulate.Kinds.ps Triangulate.Kinds.r answerAlone → ⊥
     left-open one =
-        let same = one ([], ([], ([], tt))) (emptyHeader, (lent [], (lent [], (lent (0 ∷ []), tt)))) (Triangles 0) (Triangles 0) (tt, (tt, (tt, (0 ∷ [], tt)))) (tt, (tt, (tt, (1 ∷ [], tt)))) refl refl in
+        let same = one ([], ([], ([], tt))) (emptyHeader Plain, (lent [], (lent [], (lent (0 ∷ []), tt)))) (Triangles 0) (Triangles 0) (tt, (tt, (tt, (0 ∷ [], tt)))) (tt, (tt, (tt, (1 ∷ [], tt)))) refl refl in
         below 0 1 0 refl (ap (λ t. getD (t .1 .1 .1 .0) 0 9) (same .1))
 
 pub wrongs : Wrongs
@@ -303,4 +291,5 @@ wrongs = record {
   of-contracts = of-contracts;
   of-scenes = of-scenes;
   of-distances = of-distances;
+  of-modes = of-modes;
 }

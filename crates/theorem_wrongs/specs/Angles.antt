@@ -12,6 +12,7 @@ use Rattle.numbers.specs.F64.{two}
 use Rattle.angle.specs.declared.Angle.{Angle}
 use Rattle.angle.specs.Angles.{none}
 use Rattle.angle.specs.Arctan.{atan2}
+use Rattle.minor_arc.specs.declared.Mode.the-variants.{Plain}
 use Rattle.exact_angles.specs.Exact.{quarter, Within, AlwaysNear}
 use Rattle.exact_angles.specs.Steady.{Pair, total, exactOf, Decides}
 use Rattle.ring_turns.specs.Turns.{plusTurn, turnSum}
@@ -66,7 +67,7 @@ pub record OfAngles : Type 0 where
   -- one whose sines and cosines are exchanged
   pub sine-for-cosine : ((l : List Float) (n : ℕ) → turnSum l n .0 ≡ total F64.zero (exchanged (turnPairs l n))) → ⊥
   -- a mark `reversed` that says that the list was kept: area 1 is reversed, and its exact sum above 0
-  pub reversed-for-kept : ((l ps ns : List Float) (cs : List ℕ) (h : Header) → buildOutcome l ps ns cs .answer ≡ loop h → h .state ≡ Ring → h .weak ≡ false
+  pub reversed-for-kept : ((l ps ns : List Float) (cs : List ℕ) (h : Header) → buildOutcome Plain l ps ns cs .answer ≡ loop h → h .state ≡ Ring → h .weak ≡ false
       → h .reversed ≡ true → SumBelow l (openedCount l)) → ⊥
   -- a direction by the exact sum of every loop that is steady, whatever its state: EMPTY is kept, and the sum of no turns is 0
-  pub of-every-state : ((l ps ns : List Float) (cs : List ℕ) (h : Header) → buildOutcome l ps ns cs .answer ≡ loop h → h .weak ≡ false → Directed l h) → ⊥
+  pub of-every-state : ((l ps ns : List Float) (cs : List ℕ) (h : Header) → buildOutcome Plain l ps ns cs .answer ≡ loop h → h .weak ≡ false → Directed l h) → ⊥

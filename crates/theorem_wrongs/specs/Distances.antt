@@ -18,6 +18,7 @@ use Rattle.chord_length.specs.declared.ChordLength.{ChordLength}
 use Rattle.chord_length.specs.Chords.{squared, most, laterMax, least}
 use Rattle.chord_length.specs.Chords as Chords
 use Rattle.minor_arc.specs.declared.MinorArc.{MinorArc}
+use Rattle.minor_arc.specs.declared.Mode.the-variants.{Plain}
 use Rattle.minor_arc.specs.Arcs.{arcOf}
 use Rattle.loop_header.specs.Loops.{emptyHeader, fullHeader}
 use Rattle.loop_build.specs.Build as Build
@@ -143,10 +144,10 @@ pub record OfDistances : Type 0 where
   -- 0 for a position inside
   pub zero-inside : RingOtherwise (λ ps ns n p. squared F64.zero) inside-area-1
   -- the least from 4 on of no edges: 4 for the full loop, and for the empty one
-  pub four-for-full : boundaryAnswer (fullHeader false) [] [] [] axis-x ≡ chord most → ⊥
-  pub four-for-empty : boundaryAnswer emptyHeader [] [] [] axis-x ≡ chord most → ⊥
+  pub four-for-full : boundaryAnswer (fullHeader Plain false) [] [] [] axis-x ≡ chord most → ⊥
+  pub four-for-empty : boundaryAnswer (emptyHeader Plain) [] [] [] axis-x ≡ chord most → ⊥
   -- the position judged ahead of the loop: its 3, and not the 1 of an empty loop with a class
-  pub position-before-loop : boundaryAnswer emptyHeader [] [] (0 ∷ []) no-position ≡ refused 3 → ⊥
+  pub position-before-loop : boundaryAnswer (emptyHeader Plain) [] [] (0 ∷ []) no-position ≡ refused 3 → ⊥
   -- an arcsine by 1 - u·u
   pub one-less-the-square : radians two-and-five-eighths ≡ radiansBy (bySine (λ u. rootOf (one ⊖ u ⊗ u))) two-and-five-eighths → ⊥
   -- the radians straight from the chord, twice the arctangent of √c and √(4 - c): a quarter turn exactly for 2, where the answer is two last bits more

@@ -4,6 +4,7 @@ use Prim.Native.Nat.{ℕ, _<_}
 use mathlib.Core.Path.{_≡_}
 use mathlib.Core.List.{List, [], _∷_, _++_}
 use lib.ListN.{length, replicate}
+use Rattle.minor_arc.specs.declared.Mode.the-variants.{Plain}
 use Rattle.loop_header.specs.Loops.{emptyHeader}
 use Rattle.scene_store.specs.declared.Area.{Area}
 use Rattle.scene_records.specs.declared.Fault.the-variants.{ManyAreas, ManyPositions}
@@ -51,7 +52,7 @@ shortOfKind9 = 4 ∷ 0 ∷ 0 ∷ 0 ∷ 9 ∷ 0 ∷ []
 
 -- ---- what was met: sixteen areas, all of number 1; or none, and 1,024 positions given
 abbrev pub areaOne : Area
-areaOne = record { number = 1; start = 0; header = emptyHeader }
+areaOne = record { number = 1; start = 0; header = emptyHeader Plain }
 
 abbrev pub sixteen : Scene
 sixteen = record { at = 0; records = 16; areas = replicate 16 areaOne; given = 0; used = 0; positions = []; normals = []; classes = [] }

@@ -39,7 +39,9 @@ use Rattle.loop_relate.specs.Relations.{relateAnswer}
 use Rattle.theorem_wrongs.specs.Angles.{OfAngles}
 use Rattle.theorem_wrongs.specs.Scenes.{OfScenes}
 use Rattle.theorem_wrongs.specs.Distances.{OfDistances}
-use Rattle.theorem_settled.specs.Settled.{six-tenths, eight-tenths, minus-six-tenths, at, built, blank, blank-classes, area-1, flat-list, headerOf, four-built, four-cut, four-checked, full-one, empty-one, related}
+use Rattle.theorem_wrongs.specs.Modes.{header, placed, OfModes}
+use Rattle.theorem_settled.specs.Settled.{six-tenths, eight-tenths, minus-six-tenths, at, built, blank, blank-classes, area-1, flat-list, four-built, four-cut, four-checked, full-one, empty-one, related}
+use Rattle.theorem_modes.specs.Longs.{in-the-other, in-the-one, pair}
 
 -- ---- the inputs
 -- the worked example's place in area 1: (0.48, 0.6, 0.64)
@@ -67,13 +69,6 @@ area-2 = coords axis-x ++ coords axis-y ++ coords (opposite axis-z)
 -- its first edge crosses the first of area 1's ring
 abbrev pub across : List Float
 across = coords (at six-tenths F64.zero eight-tenths) ++ coords (at minus-six-tenths eight-tenths F64.zero) ++ coords axis-x
-
--- two rings whose edges do not cross and of which each has a corner in the other: (-0.8, 0, -0.6), X, (0.64, -0.48, 0.6) and -Y, Z, X
-abbrev pub in-the-other : List Float
-in-the-other = coords (at (ofBits binary64 0xbfe9_9999_9999_999a) F64.zero minus-six-tenths) ++ coords axis-x ++ coords (at (ofBits binary64 0x3fe4_7ae1_47ae_147b) (ofBits binary64 0xbfde_b851_eb85_1eb8) six-tenths)
-
-abbrev pub in-the-one : List Float
-in-the-one = coords (opposite axis-y) ++ coords axis-z ++ coords axis-x
 
 -- X, X, Z, -Z, cut into (1,2,3) and (0,1,3): the first has no mean, since Z and -Z are antipodes, and with one mean alone the loop is mute
 abbrev pub one-mean : List Float
@@ -104,12 +99,6 @@ abbrev pub ear-at-last : List Float
 ear-at-last = coords (opposite axis-z) ++ coords (opposite axis-x) ++ coords (opposite axis-x) ++ coords (opposite axis-y) ++ coords axis-x
 
 -- ---- the questions put to loops as built
-abbrev pub header : Build.Outcome → Header
-header o = headerOf (o .answer)
-
-abbrev pub placed : Build.Outcome → Vec3 → Told
-placed o p = placeAnswer (header o) (o .positions) (o .normals) (o .classes) p
-
 abbrev pub cutOutcome : Build.Outcome → List ℕ → Outcome
 cutOutcome o room = triangulateOutcome (header o) (o .positions) (o .classes) room
 
@@ -122,10 +111,7 @@ cutInto o room = cutOutcome o room .triangles
 abbrev pub checked : Build.Outcome → List ℕ → Told
 checked o triples = acceptsAnswer (header o) (o .positions) (o .classes) triples
 
--- a ring to another, and to the full loop
-abbrev pub pair : Build.Outcome → Build.Outcome → Told
-pair a b = relateAnswer (header a) (a .positions) (a .normals) (a .classes) (header b) (b .positions) (b .normals) (b .classes)
-
+-- a ring to the full loop
 abbrev pub toFull : Build.Outcome → Told
 toFull a = relateAnswer (header a) (a .positions) (a .normals) (a .classes) full-one [] [] []
 
@@ -314,7 +300,7 @@ pub record OfRelating : Type 0 where
 -- ---- of a mute loop
 -- the header of a ring without its insides
 abbrev pub muted : Header → Header
-muted h = record { count = h .count; state = h .state; cap = h .cap; insides = Absent; reversed = h .reversed; weak = h .weak }
+muted h = record { count = h .count; state = h .state; cap = h .cap; insides = Absent; reversed = h .reversed; weak = h .weak; mode = h .mode }
 
 -- how a ring with its header changed stands to another; the ring of four corners
 abbrev pub between : (Header → Header) → Build.Outcome → Build.Outcome → Told
@@ -355,3 +341,4 @@ pub record Wrongs : Type 0 where
   pub of-contracts : OfContracts
   pub of-scenes : OfScenes
   pub of-distances : OfDistances
+  pub of-modes : OfModes

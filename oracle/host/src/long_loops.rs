@@ -1,6 +1,6 @@
 //! Runs over loops of the long mode: built, asked of places, of their shape and in pairs, with how often the two modes differ.
 use crate::calls::{Answer, Arg, Call, Export, blank};
-use crate::long_arcs::across;
+use crate::long_arcs::{across, signed};
 use crate::pairs::{full, two_lists};
 use crate::random::{P, Random, add, along, around, bytes, neg, scale, unit};
 use crate::rings::{
@@ -154,7 +154,7 @@ pub fn build(t: &mut Tally, r: &mut Random, n: usize) {
 
 /// The mark byte, or what a place or a pair reads of the header, otherwise than it was built.
 fn alter(r: &mut Random, b: &mut [u8]) {
-    match r.below(6) {
+    match r.below(7) {
         0 => b[3] = r.bits() as u8,
         1 => b[3] ^= LONG,
         2 => b[3] &= !INSIDES,
@@ -162,6 +162,10 @@ fn alter(r: &mut Random, b: &mut [u8]) {
             // An empty cap, a full one, or one that ends within the ring.
             let radius: f64 = *r.pick(&[-1.0, 4.0, 0.0, 1e-3, -2.0, 5.0]);
             b[32..40].copy_from_slice(&radius.to_le_bytes());
+        }
+        5 => {
+            let n = count(b);
+            signed(r, &mut b[8..HEADER + 48 * n]);
         }
         _ => {
             // Insides of somebody else, of whatever loop it is.
@@ -250,7 +254,10 @@ fn known(t: &mut Tally, export: Export, args: Vec<Arg>, value: u32) {
 }
 
 fn put_place(t: &mut Tally, r: &mut Random, modes: &mut Modes, l: &[u8]) {
-    let p = if r.chance(2) { bytes(wide_place(r, l)) } else { query_bytes(r, l) };
+    let mut p = if r.chance(2) { bytes(wide_place(r, l)) } else { query_bytes(r, l) };
+    if r.chance(8) {
+        signed(r, &mut p);
+    }
     let told = model::desk_place(l, &p);
     let other = if l.len() > 3 && l[3] & LONG != 0 { Mode::Plain } else { Mode::Long };
     let otherwise = model::desk_place(&in_mode(l, other), &p);

@@ -146,31 +146,48 @@ fn sized(r: &mut Random, a: &mut [u8]) {
     }
 }
 
-/// Two arcs of the plane square to an axis. The first one's normal is so long that the retest of its sides is NaN; the second one's leans by
-/// so little that the normals' product stays finite: it points to an end of the first, or anywhere in the plane.
-fn beside_nan(r: &mut Random) -> Two {
-    let axis = r.below(3);
-    let across = |v: [f64; 2]| {
-        let mut p = [v[0], v[1], 0.0];
-        p.rotate_right((axis + 1) % 3);
-        p
-    };
-    let mut flat = || match r.below(3) {
+/// A direction in the plane square to an axis, mostly one whose products come out round.
+pub fn flat(r: &mut Random) -> [f64; 2] {
+    match r.below(3) {
         0 => {
             let turn = r.between(-PI, PI);
-            unit([turn.cos(), turn.sin(), 0.0])
+            let p = unit([turn.cos(), turn.sin(), 0.0]);
+            [p[0], p[1]]
         }
-        _ => *r.pick(&[[1.0, 0.0, 0.0], [0.0, 1.0, 0.0], [0.6, 0.8, 0.0], [-0.8, 0.6, 0.0], [0.0, -1.0, 0.0]]),
-    };
-    let [s, e, b, c, other] = [flat(), flat(), flat(), flat(), flat()].map(|p| [p[0], p[1]]);
-    let towards = *r.pick(&[s, e, e, b, other]);
-    let (mut first, mut second) = (arc(across(s), across(e)), arc(across(b), across(c)));
-    let (mut n, mut pole) = ([0.0; 3], [0.0; 3]);
+        _ => *r.pick(&[[1.0, 0.0], [0.0, 1.0], [0.6, 0.8], [-0.8, 0.6], [0.0, -1.0], [-0.6, -0.8]]),
+    }
+}
+
+/// That direction where the axis is.
+pub fn in_plane(axis: usize, v: [f64; 2]) -> P {
+    let mut p = [v[0], v[1], 0.0];
+    p.rotate_right((axis + 1) % 3);
+    p
+}
+
+/// A normal along the axis, so long that the retest of a side is NaN.
+pub fn too_long(r: &mut Random, axis: usize) -> P {
+    let mut n = [0.0; 3];
     n[axis] = f64::MAX * r.between(0.3, 1.0) * if r.chance(2) { 1.0 } else { -1.0 };
+    n
+}
+
+/// A normal along the axis that leans by so little that its product with such a one stays finite, and points that way.
+pub fn leaning(r: &mut Random, axis: usize, towards: [f64; 2]) -> P {
+    let mut pole = [0.0; 3];
     pole[axis] = if r.chance(2) { 1.0 } else { -1.0 };
-    let lean = scale(across([-towards[1], towards[0]]), r.spread(-560, -500));
-    set_normal(&mut first, n);
-    set_normal(&mut second, add(pole, lean));
+    add(pole, scale(in_plane(axis, [-towards[1], towards[0]]), r.spread(-560, -500)))
+}
+
+/// Two arcs of the plane square to an axis, of which the circles meet at an end of one, or anywhere in the plane.
+fn beside_nan(r: &mut Random) -> Two {
+    let axis = r.below(3);
+    let [s, e, b, c, other] = [0; 5].map(|_| flat(r));
+    let towards = *r.pick(&[s, e, e, b, other]);
+    let (mut first, mut second) =
+        (arc(in_plane(axis, s), in_plane(axis, e)), arc(in_plane(axis, b), in_plane(axis, c)));
+    set_normal(&mut first, too_long(r, axis));
+    set_normal(&mut second, leaning(r, axis, towards));
     if r.chance(3) { (second, first) } else { (first, second) }
 }
 

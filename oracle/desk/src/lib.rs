@@ -180,8 +180,8 @@ pub fn full_positions() -> Answered<[Position; 12]> {
 /// How arcs meet, a loop's edges among them. Two great circles meet in a point and its opposite.
 #[derive(Clone, Copy, Debug, Default, PartialEq, Eq, Hash)]
 pub enum Mode {
-    /// The point on the side of the first arc's start is the only one tried, and a loop's cap is asked first. This is for arcs up to a
-    /// quarter circle; of longer ones a meeting can be missed.
+    /// The point on the side of the first arc's start is the only one tried, and a loop's cap is asked first. A meeting a quarter circle or
+    /// more from that start is missed, so this is for arcs, and for loops across, below a quarter circle.
     #[default]
     Plain,
     /// Both points are tried, and no cap is asked.
@@ -260,7 +260,8 @@ impl Loop {
         Loop::build_in(Mode::Plain, list)
     }
 
-    /// Builds a loop of that mode: long where a side may be longer than a quarter circle.
+    /// Builds a loop of that mode: long where a side, or the loop across, may be a quarter circle or more, and for whatever is to be related to
+    /// such a loop.
     pub fn build_in(mode: Mode, list: &[Position]) -> Answered<Loop> {
         let given: Vec<u8> = list.iter().flat_map(|p| bytes(*p)).collect();
         let mut out = vec![0; HEADER + 49 * list.len()];

@@ -146,6 +146,51 @@ fn sized(r: &mut Random, a: &mut [u8]) {
     }
 }
 
+/// A direction in the plane square to an axis, mostly one whose products come out round.
+pub fn flat(r: &mut Random) -> [f64; 2] {
+    match r.below(3) {
+        0 => {
+            let turn = r.between(-PI, PI);
+            let p = unit([turn.cos(), turn.sin(), 0.0]);
+            [p[0], p[1]]
+        }
+        _ => *r.pick(&[[1.0, 0.0], [0.0, 1.0], [0.6, 0.8], [-0.8, 0.6], [0.0, -1.0], [-0.6, -0.8]]),
+    }
+}
+
+/// That direction where the axis is.
+pub fn in_plane(axis: usize, v: [f64; 2]) -> P {
+    let mut p = [v[0], v[1], 0.0];
+    p.rotate_right((axis + 1) % 3);
+    p
+}
+
+/// A normal along the axis, so long that the retest of a side is NaN.
+pub fn too_long(r: &mut Random, axis: usize) -> P {
+    let mut n = [0.0; 3];
+    n[axis] = f64::MAX * r.between(0.3, 1.0) * if r.chance(2) { 1.0 } else { -1.0 };
+    n
+}
+
+/// A normal along the axis that leans by so little that its product with such a one stays finite, and points that way.
+pub fn leaning(r: &mut Random, axis: usize, towards: [f64; 2]) -> P {
+    let mut pole = [0.0; 3];
+    pole[axis] = if r.chance(2) { 1.0 } else { -1.0 };
+    add(pole, scale(in_plane(axis, [-towards[1], towards[0]]), r.spread(-560, -500)))
+}
+
+/// Two arcs of the plane square to an axis, of which the circles meet at an end of one, or anywhere in the plane.
+fn beside_nan(r: &mut Random) -> Two {
+    let axis = r.below(3);
+    let [s, e, b, c, other] = [0; 5].map(|_| flat(r));
+    let towards = *r.pick(&[s, e, e, b, other]);
+    let (mut first, mut second) =
+        (arc(in_plane(axis, s), in_plane(axis, e)), arc(in_plane(axis, b), in_plane(axis, c)));
+    set_normal(&mut first, too_long(r, axis));
+    set_normal(&mut second, leaning(r, axis, towards));
+    if r.chance(3) { (second, first) } else { (first, second) }
+}
+
 fn with_normals(r: &mut Random, alter: fn(&mut Random, &mut [u8])) -> Two {
     let mut q = match r.below(3) {
         0 => halves(r),
@@ -199,7 +244,7 @@ fn end_on(r: &mut Random) -> Two {
 type Family = (&'static str, bool, fn(&mut Random) -> Two);
 
 /// Each with a name, and whether its arcs are as built.
-const FAMILIES: [Family; 14] = [
+const FAMILIES: [Family; 15] = [
     ("both long", true, |r| {
         let ((s, d, angle), (t, e, other)) = (long(r), long(r));
         (arc(s, turned(s, d, angle)), arc(t, turned(t, e, other)))
@@ -231,6 +276,7 @@ const FAMILIES: [Family; 14] = [
     ("round positions", true, |r| (arc(r.round(), r.round()), arc(r.round(), r.round()))),
     ("altered normals", false, |r| with_normals(r, alter)),
     ("normals that run over", false, |r| with_normals(r, sized)),
+    ("a NaN beside an end", false, beside_nan),
 ];
 
 /// What became of a family's pairs: by relation in each mode, how many differ, and how many were refused.
@@ -249,7 +295,7 @@ impl Row {
         let told = |c: [u64; 4]| format!("{} {} {} {}", c[0], c[1], c[2], c[3]);
         let pairs: u64 = self.plain.iter().sum();
         format!(
-            "{name:<24} plain {:<32} long {:<32} {} of {pairs} differ, {} refused, {} NaN",
+            "{name:<24} plain {:<36} long {:<36} {} of {pairs} differ, {} refused, {} NaN",
             told(self.plain),
             told(self.long),
             self.differ,
@@ -285,7 +331,9 @@ fn count(row: &mut Row, a: &[u8], b: &[u8]) {
 fn runs_over(a: &[u8], b: &[u8]) -> bool {
     let (Ok(a), Ok(b)) = (read_arc(a), read_arc(b)) else { return false };
     let i = a.normal().stable_cross_prod_unit(b.normal());
-    let placed = |of: MinorArc, end: Vec3| i.dot_prod(of.normal().cross_prod(end)).is_nan();
+    let placed = |of: MinorArc, end: Vec3| {
+        i.dot_prod(of.normal().cross_prod(end)).is_nan() || i.dot_prod(of.normal().orthogonal_to(end)).is_nan()
+    };
     [a, b].iter().any(|of| placed(*of, of.start().as_vec3()) || placed(*of, of.end().as_vec3()))
 }
 
@@ -327,8 +375,8 @@ fn put_relate(t: &mut Tally, a: &[u8], b: &[u8], mut out: Vec<u8>) {
 }
 
 /// -0.0 for some zeros.
-fn signed(r: &mut Random, arc: &mut [u8]) {
-    for c in arc.chunks_exact_mut(8) {
+pub fn signed(r: &mut Random, floats: &mut [u8]) {
+    for c in floats.chunks_exact_mut(8) {
         if c == [0; 8] && r.chance(2) {
             c[7] = 0x80;
         }
@@ -384,8 +432,8 @@ mod tests {
     use model::arcs::read_arc;
     use model::long::{Meeting, Mode, meeting};
 
-    /// Of a point and its opposite, one that crosses leaves the other apart, and two touch only where each is at both ends of both arcs: the side of an
-    /// opposite point is the opposite side. So nothing but the order of two touches can be seen of the ranks.
+    /// Of a point and its opposite, one that crosses leaves the other apart, and a touch leaves no crossing, since the sides of the one are opposite to
+    /// the other's, or both right where they are NaN. So nothing but the order of two touches can be seen of the ranks.
     #[test]
     fn two_points_are_met_as_touches_alone() {
         let mut r = Random::new(1);

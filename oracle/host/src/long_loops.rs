@@ -1,8 +1,8 @@
 //! Runs over loops of the long mode: built, asked of places, of their shape and in pairs, with how often the two modes differ.
 use crate::calls::{Answer, Arg, Call, Export, blank};
-use crate::long_arcs::across;
+use crate::long_arcs::{across, flat, in_plane, leaning, signed, too_long as too_long_normal};
 use crate::pairs::{full, two_lists};
-use crate::random::{P, Random, add, along, around, bytes, neg, scale, unit};
+use crate::random::{P, Random, add, along, around, bytes, list_bytes, neg, scale, unit};
 use crate::rings::{
     HEADER, at, bad_float, built_in, count, damaged_loop, like, parts, put_build, query, query_bytes, too_long, vertex,
 };
@@ -154,7 +154,7 @@ pub fn build(t: &mut Tally, r: &mut Random, n: usize) {
 
 /// The mark byte, or what a place or a pair reads of the header, otherwise than it was built.
 fn alter(r: &mut Random, b: &mut [u8]) {
-    match r.below(6) {
+    match r.below(7) {
         0 => b[3] = r.bits() as u8,
         1 => b[3] ^= LONG,
         2 => b[3] &= !INSIDES,
@@ -162,6 +162,10 @@ fn alter(r: &mut Random, b: &mut [u8]) {
             // An empty cap, a full one, or one that ends within the ring.
             let radius: f64 = *r.pick(&[-1.0, 4.0, 0.0, 1e-3, -2.0, 5.0]);
             b[32..40].copy_from_slice(&radius.to_le_bytes());
+        }
+        5 => {
+            let n = count(b);
+            signed(r, &mut b[8..HEADER + 48 * n]);
         }
         _ => {
             // Insides of somebody else, of whatever loop it is.
@@ -190,6 +194,31 @@ fn handed(r: &mut Random, mode: Mode, list: &[P]) -> Vec<u8> {
     }
 }
 
+/// A ring in the plane square to an axis, with normals as nobody builds them: too long, or leaning by next to nothing. An arc from its insides, which are in
+/// that plane but for as little, meets NaNs beside its corners.
+fn flat_loop(r: &mut Random, axis: usize, mode: Mode) -> Vec<u8> {
+    let corners: Vec<[f64; 2]> = (0..4 + r.below(3)).map(|_| flat(r)).collect();
+    let mut near_plane = || {
+        let mut p = in_plane(axis, flat(r));
+        p[axis] = r.spread(-560, -500);
+        p
+    };
+    let insides = [near_plane(), near_plane()];
+    let mut l = (corners.len() as u16).to_le_bytes().to_vec();
+    l.extend([2, INSIDES | r.below(4) as u8, 0, 0, 0, 0]);
+    l.extend(list_bytes(&[insides[0]]));
+    l.extend(4.0_f64.to_le_bytes());
+    l.extend(list_bytes(&insides));
+    l.extend(corners.iter().flat_map(|c| bytes(in_plane(axis, *c))));
+    for i in 0..corners.len() {
+        let towards = corners[(i + r.below(3)) % corners.len()];
+        let n = if r.chance(2) { too_long_normal(r, axis) } else { leaning(r, axis, towards) };
+        l.extend(bytes(n));
+    }
+    l.extend(corners.iter().map(|_| 0));
+    in_mode(&l, mode)
+}
+
 fn some_loop(r: &mut Random) -> Vec<u8> {
     let mode = if r.chance(5) { Mode::Plain } else { Mode::Long };
     match r.below(100) {
@@ -200,6 +229,10 @@ fn some_loop(r: &mut Random) -> Vec<u8> {
         }
         1 => built_in(mode, &[]),
         2 => in_mode(&full(), mode),
+        3..=9 => {
+            let axis = r.below(3);
+            flat_loop(r, axis, mode)
+        }
         _ => {
             let list = some_list(r);
             handed(r, mode, &list)
@@ -217,7 +250,7 @@ fn wide_place(r: &mut Random, l: &[u8]) -> P {
     }
     let (i, inside, centre) = (r.below(n), at(l, 40), at(l, 8));
     let (a, b) = (vertex(l, i), vertex(l, i + 1));
-    match r.below(7) {
+    match r.below(9) {
         0 => neg(centre),
         1 => {
             let (turn, far) = (r.between(0.0, TAU), r.between(0.0, PI));
@@ -234,6 +267,8 @@ fn wide_place(r: &mut Random, l: &[u8]) -> P {
             let (p, off) = (along(a, b, r.fraction()), r.spread(-40, -3).abs());
             r.near(p, off)
         }
+        6 => a,
+        7 => neg(a),
         _ => unit(add(neg(a), scale(b, r.between(-0.5, 0.5)))),
     }
 }
@@ -250,7 +285,10 @@ fn known(t: &mut Tally, export: Export, args: Vec<Arg>, value: u32) {
 }
 
 fn put_place(t: &mut Tally, r: &mut Random, modes: &mut Modes, l: &[u8]) {
-    let p = if r.chance(2) { bytes(wide_place(r, l)) } else { query_bytes(r, l) };
+    let mut p = if r.chance(2) { bytes(wide_place(r, l)) } else { query_bytes(r, l) };
+    if r.chance(8) {
+        signed(r, &mut p);
+    }
     let told = model::desk_place(l, &p);
     let other = if l.len() > 3 && l[3] & LONG != 0 { Mode::Plain } else { Mode::Long };
     let otherwise = model::desk_place(&in_mode(l, other), &p);
@@ -408,6 +446,10 @@ fn two_loops(r: &mut Random) -> (Vec<u8>, Vec<u8>) {
         (Mode::Long, Mode::Plain),
         (Mode::Plain, Mode::Plain),
     ]);
+    if r.chance(16) {
+        let axis = r.below(3);
+        return (flat_loop(r, axis, first), flat_loop(r, axis, second));
+    }
     let (mut a, mut b) = (handed(r, first, &x), handed(r, second, &y));
     for (one, mode) in [(&mut a, first), (&mut b, second)] {
         match r.below(30) {

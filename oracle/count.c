@@ -1,5 +1,6 @@
-/* Calls one export N times on one loop, for oracle/count: count EXPORT SHAPE CORNERS TIMES. What is built, placed, measured, paired or cut is a convex
-   polygon or a star round one centre; the pair is the same loop a little smaller, so that every edge is compared. */
+/* Calls one export N times on one loop, for oracle/count: count EXPORT SHAPE CORNERS TIMES MODE. What is built, placed, measured, paired or cut is a convex
+   polygon or a star round one centre; the pair is the same loop a little smaller, so that every edge is compared. In long mode, MODE `long`, it is the same
+   loop with the mark of that mode. */
 #include "../exports/desk.h"
 #include <math.h>
 #include <stdio.h>
@@ -34,16 +35,26 @@ static void make(Loop *l, int star, size_t n, double size) {
     }
 }
 
+/* A built loop differs by its mark alone. */
+static void mark(Loop *l) {
+    l->header[3] |= 8;
+    l->bytes[3] |= 8;
+}
+
 int main(int argc, char **argv) {
     static Loop a, b;
     static uint16_t triangles[1530];
     static double distance[1];
-    if (argc != 5)
+    if (argc != 6)
         return 2;
     int star = !strcmp(argv[2], "star");
     size_t n = (size_t)atoi(argv[3]);
     make(&a, star, n, 0.3);
     make(&b, star, n, 0.25);
+    if (!strcmp(argv[5], "long")) {
+        mark(&a);
+        mark(&b);
+    }
     uint32_t r = 0;
     for (int times = atoi(argv[4]); times > 0; times--) {
         if (!strcmp(argv[1], "desk_build"))

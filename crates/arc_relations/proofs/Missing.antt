@@ -6,11 +6,11 @@ use Rattle.vec3.specs.Vec.{origin, same, stableUnit}
 use Rattle.minor_arc.specs.declared.MinorArc.{MinorArc}
 use Rattle.minor_arc.specs.declared.Mode.{Mode}
 use Rattle.minor_arc.specs.Arcs.{missed, meetingOf}
-use Rattle.minor_arc.proofs.Missing.{apart, candidate-stored}
+use Rattle.minor_arc.proofs.Missing.{missed-apart}
 use Rattle.arc_relations.specs.declared.MinorArcRelation.the-variants.{Disjoint}
 use Rattle.arc_relations.specs.Relations.{relationOf}
 
 module _ (mode : Mode) (a b : MinorArc) {i : Vec3} (e : i ≡ stableUnit (a .normal) (b .normal)) where
   pub missed-disjoint : missed mode a i ≡ true → same i origin ≡ false → Disjoint ≡ relationOf mode a b
   unfolding meetingOf relationOf
-  missed-disjoint h o = rw (← e, o, apart a mode b i (candidate-stored a b e) h)
+  missed-disjoint h o = rw (← e, o, missed-apart mode a b e h)

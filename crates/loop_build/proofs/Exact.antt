@@ -1,5 +1,5 @@
 -- Each refusal of `build` is given exactly when SCOPE 25 says, in the order of SCOPE 26: both directions. Assumes nothing.
-use Prim.Native.Nat.{ℕ, zero, suc, _*_, _/_, _%_, _≤_, _<_}
+use Prim.Native.Nat.{ℕ, suc, _*_, _/_, _%_}
 use mathlib.Core.Path.{_≡_, refl}
 use mathlib.Core.Bool.{Bool, true, false, _&&_, _||_, cond, or-true}
 use mathlib.Core.List.{List}
@@ -10,10 +10,10 @@ use borrow.Author.Tests.{eqb-true, eqb-false, eq-eqb, ne-eqb, leb-true, leb-fals
 use Rattle.laws.specs.Loop.{first}
 use Rattle.minor_arc.specs.declared.Mode.{Mode}
 use Rattle.judge.specs.Judge.{positionsFault}
-use Rattle.judge.specs.Why.{Exactly, Refuses, PositionsWhy}
+use Rattle.judge.specs.Why.{Exactly, PositionsWhy}
 use Rattle.judge.proofs.Exactly.{exactly, then-exact, refuses}
 use Rattle.judge.proofs.Exact as Judge
-use Rattle.loop_build.specs.Build.{Told, refused, loop, listFault, roomFault, openedCount, refusal, Outcome, outcomeIf, outcomeBy, buildOutcome}
+use Rattle.loop_build.specs.Build.{Told, refused, loop, listFault, roomFault, openedCount, refusal, outcomeIf, buildOutcome}
 use Rattle.loop_build.specs.Why.{ListWhy, not-threes, too-many, in-positions, RoomWhy, short-positions, short-normals, short-classes, fewer, all-fit, BuildWhy, Exact}
 
 -- ---- a list

@@ -1,17 +1,17 @@
 -- `relate` refuses a pair exactly for what one of the loops is refused for, with 11 where their modes differ, or with 7 where each lies in the other. Assumes
 -- nothing.
-use Prim.Native.Nat.{ℕ, zero, suc, _+_, _<_}
-use mathlib.Core.Path.{_≡_, refl, sym, ap, _∙_, subst}
-use mathlib.Core.Bool.{Bool, true, false}
+use Prim.Native.Nat.{ℕ, suc, _<_}
+use mathlib.Core.Path.{_≡_, refl, ap, subst}
+use mathlib.Core.Bool.{true, false}
 use mathlib.Core.List.{List}
 use native.Mathlib.Omega.{arith}
 use lib.Ieee.{Float}
 use Rattle.judge.specs.Why.{Then, stops, goes-on}
 use Rattle.loop_header.specs.declared.Header.{Header}
-use Rattle.loop_ask.specs.Answers.{Told, refused, answer, judged}
+use Rattle.loop_ask.specs.Answers.{Told, refused, answer}
 use Rattle.loop_ask.specs.Why.{PairWhy}
 use Rattle.loop_relate.specs.Relations.{relateFault, relateAnswer}
-use Rattle.loop_relate.specs.Why.{Seven, RelateWhy, loops, modes, seven, Exact}
+use Rattle.loop_relate.specs.Why.{RelateWhy, loops, modes, seven, Exact}
 use Rattle.loop_relate.proofs.Modes.{ModesWhy, alike, unlike, fault-exact}
 use Rattle.loop_relate.proofs.Sevens.{seven-only, seven-given}
 use Rattle.loop_relate.proofs.Ways.{code, Way, refusal, equal, full, caps-apart, crossing, points, way}

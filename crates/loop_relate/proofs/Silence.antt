@@ -1,5 +1,5 @@
 -- What an answer of `relate` says of the two loops, of a mute one and of a weak one too, in both modes. Assumes nothing.
-use Prim.Native.Nat.{ℕ, zero, suc, _+_, _≤_, _<_}
+use Prim.Native.Nat.{ℕ, zero, suc, _≤_, _<_}
 use mathlib.Core.Path.{_≡_, refl, sym, ap, _∙_}
 use mathlib.Core.Bool.{Bool, true, false, _&&_, _||_, false≢true}
 use mathlib.Core.Logic.{_⊎_, inl, inr}
@@ -23,7 +23,7 @@ use Rattle.ring_pair.specs.declared.Probe.{Probe}
 use Rattle.ring_pair.specs.declared.Probe.the-variants.{Nowhere, Corner, Middle}
 use Rattle.ring_pair.specs.Probes.{unambiguousPoint, askedMidpoint, middleProbe, firstCorner, firstMiddle}
 use Rattle.loop_ask.specs.Answers.{Told, refused, answer}
-use Rattle.loop_ask.specs.Places.{clearedCap, placeWithout, placeBy, placeOf}
+use Rattle.loop_ask.specs.Places.{placeWithout, placeBy, placeOf}
 use Rattle.loop_ask.specs.Questions.{fullState, pairFault, equivalentLoops}
 use Rattle.loop_ask.proofs.Silence.{code-mute, mute-code}
 use Rattle.loop_relate.specs.Relations.{isInside, placedInside, probeInside, liesIn, byEdges, byCaps, byStates, relateFault, relateAnswer, searched, midpointFor, neededMidpoint}

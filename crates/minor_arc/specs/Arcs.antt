@@ -56,6 +56,11 @@ within Endpoint = true
 within Interior = true
 within Exterior = false
 
+abbrev pub interior : Location → Bool
+interior Endpoint = false
+interior Interior = true
+interior Exterior = false
+
 unfoldable pub onArc : MinorArc → Vec3 → Bool
 onArc a p = near (dot p (a .normal)) zero && within (locationOf a p)
 
@@ -72,11 +77,16 @@ abbrev pub beyondBy : Mode → Float → Float → Bool
 beyondBy Plain s e = beyond s e
 beyondBy Long s e = beyond s e && beyond (neg s) (neg e)
 
--- each point that the mode tries is beyond an end for sure
+-- p, and in long mode its opposite too, is beyond an end of the arc for sure
+abbrev pub beyondAt : Mode → MinorArc → Vec3 → Bool
+beyondAt mode a p = beyondBy mode (dot p (cross (a .normal) (a .start))) (dot p (cross (a .normal) (a .end)))
+
+-- each point that the mode tries is beyond an end of the first arc for sure, or of the second
 unfoldable pub missed : Mode → MinorArc → Vec3 → Bool
-missed mode a i =
-    let p = nearer (a .start) i in
-    beyondBy mode (dot p (cross (a .normal) (a .start))) (dot p (cross (a .normal) (a .end)))
+missed mode a i = beyondAt mode a (nearer (a .start) i)
+
+unfoldable pub missedOther : Mode → MinorArc → MinorArc → Vec3 → Bool
+missedOther mode a b i = beyondAt mode b (nearer (a .start) i)
 
 -- what two arcs have in p, by where it lies on each
 abbrev pub meetAt : Vec3 → Location → Location → Meeting

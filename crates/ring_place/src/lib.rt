@@ -91,7 +91,11 @@ fn point_at(
     if arc.misses(mode, c) {
         return Point::Absent;
     }
-    arc.intersection_at(mode, ring_edges::edge(positions, normals, n, i), c)
+    let edge = ring_edges::edge(positions, normals, n, i);
+    if arc.misses_other(mode, edge, c) {
+        return Point::Absent;
+    }
+    arc.intersection_at(mode, edge, c)
 }
 
 // The edges from `from` up to `to`, with their candidates at hand.
@@ -210,8 +214,9 @@ fn from(a: Vec3, b: Vec3, p: Vec3) -> Vec3
 fn admits(mode: Mode, cap: Cap, p: Vec3) -> bool
     ensures { λ r. ⌜ r ≡ P.admits mode cap p ⌝ }
 {
+    let inside = cap.contains_position(p);
     match mode {
-        Mode::Plain => cap.contains_position(p),
+        Mode::Plain => inside,
         Mode::Long => true,
     }
 }

@@ -41,7 +41,7 @@ use Rattle.loop_triangles.specs.Triangles.{Outcome, cutTold, fullOutcome, trian
 use Rattle.loop_triangles.specs.Demand.{Cutting}
 use Rattle.loop_triangles.proofs.Demand.{cut-is, demand-3}
 use Rattle.loop_relate.specs.Relations.{liesIn, relateFault, relateAnswer}
-use Rattle.loop_relate.proofs.Modes.{ModesWhy, alike, unlike, fault-exact, unrefused}
+use Rattle.loop_relate.proofs.Modes.{ModesWhy, unlike, fault-exact, unrefused}
 use Rattle.loop_relate.proofs.Ways.{Way, refusal, equal, full, caps-apart, crossing, points, way}
 use Rattle.loop_relate.proofs.Sevens.{seven-only}
 use Rattle.loop_relate.proofs.Selves.{equal-to-itself}

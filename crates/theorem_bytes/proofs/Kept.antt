@@ -25,6 +25,7 @@ use Rattle.chord_length.specs.Chords.{squared, negative, most, fromSquaredLengt
 use Rattle.cap.specs.declared.Cap.{Cap}
 use Rattle.cap.specs.Caps.{growth, quarter-circle, emptyOne, fullOne, sumOf, farther, farthestOf, grown, boundingCap}
 use Rattle.signs.proofs.Clears.{clear-once}
+use Rattle.minor_arc.specs.declared.Mode.{Mode}
 use Rattle.ring_turns.specs.Turns.{edgeNormal}
 use Rattle.ring_corners.specs.Corners.{cornerAt, normalAt, ringOf, classesOf}
 use Rattle.ring_cut.specs.Cut.{Ring}
@@ -207,15 +208,15 @@ pub record Kept (a : Loop) : Type 0 where
   pub positions : Doubles (a .positions)
   pub normals : Doubles (a .normals)
 
-empty-kept : Kept emptyLoop
-empty-kept = record { cap = empty-cap; insides = tt; positions = λ i h. none i; normals = λ i h. none i }
+empty-kept : (mode : Mode) → Kept (emptyLoop mode)
+empty-kept mode = record { cap = empty-cap; insides = tt; positions = λ i h. none i; normals = λ i h. none i }
 
-full-kept : (weak : Bool) → Kept (fullLoop weak)
-full-kept weak = record { cap = full-cap; insides = tt; positions = λ i h. none i; normals = λ i h. none i }
+full-kept : (mode : Mode) (weak : Bool) → Kept (fullLoop mode weak)
+full-kept mode weak = record { cap = full-cap; insides = tt; positions = λ i h. none i; normals = λ i h. none i }
 
-ring-kept : (l : List Float) → Doubles l → listFault l ≡ 0 → (reversed : Bool) (n : ℕ) → n ≡ openedCount l → 3 ≤ n → Kept (ringLoop l n reversed)
+ring-kept : (mode : Mode) (l : List Float) → Doubles l → listFault l ≡ 0 → (reversed : Bool) (n : ℕ) → n ≡ openedCount l → 3 ≤ n → Kept (ringLoop mode l n reversed)
 unfolding ringHeader
-ring-kept l d f reversed n o g = record {
+ring-kept mode l d f reversed n o g = record {
   cap = cap-kept l n;
   insides = insides-kept (ringOf l n reversed) (classesOf l n reversed) (ring l d f reversed n o g);
   positions = λ i h. flat-whole (cornerAt l n reversed) (λ k. stored _ _ _) n 0 i;

@@ -1,4 +1,4 @@
--- A loop that is written in bytes and read again is the same: count, state, marks, cap, insides, positions, normals and classes. Assumes nothing.
+-- A loop that is written in bytes and read again is the same: count, state, marks and mode, cap, insides, positions, normals and classes. Assumes nothing.
 use Prim.Native.Nat.{ℕ, _+_, _*_, _/_, _%_, _≤_, _<_}
 use mathlib.Core.Path.{_≡_, refl, ap, _∙_}
 use mathlib.Core.Bool.{Bool, true, false}
@@ -8,6 +8,8 @@ use lib.ListN.{length, length-append}
 use lib.Seq.{drop-at}
 use Rattle.vec3.specs.declared.Insides.{Insides}
 use Rattle.vec3.specs.declared.Insides.the-variants.{Absent, Two}
+use Rattle.minor_arc.specs.declared.Mode.{Mode}
+use Rattle.minor_arc.specs.declared.Mode.the-variants.{Plain, Long}
 use Rattle.loop_header.specs.declared.State.{State}
 use Rattle.loop_header.specs.declared.State.the-variants.{Empty, Full, Ring}
 use Rattle.loop_header.specs.declared.Header.{Header}
@@ -15,7 +17,7 @@ use Rattle.loop_header.specs.Loops.{stateCode}
 use Rattle.wire.specs.Wire.{u64Of, bytes8, floatsBytes}
 use Rattle.wire.proofs.Back.{float-back}
 use Rattle.wire.proofs.Lays.{floats-width}
-use Rattle.bytes_loop.specs.Layout.{headerSize, normalsFrom, classesFrom, loopSize, countAt, stateByte, marksAt, stateOf, marked, capAt, insidesAt, headerAt, positionsAt, normalsAt, classesAt, markIf, areThere, marksOf, headerBytes}
+use Rattle.bytes_loop.specs.Layout.{headerSize, normalsFrom, classesFrom, loopSize, countAt, stateByte, marksAt, stateOf, marked, capAt, insidesAt, modeOf, headerAt, positionsAt, normalsAt, classesAt, markIf, areThere, isLong, marksOf, headerBytes}
 use Rattle.bytes_loop.proofs.Parts.{header-width}
 use Rattle.theorem_built.specs.Built.{Loop}
 use Rattle.theorem_bytes.specs.Returned.{bytesOf, loopAt}
@@ -32,21 +34,34 @@ state-back Empty = refl
 state-back Full = refl
 state-back Ring = refl
 
-record Marks (reversed weak insides : Bool) (marks : ℕ) : Type 0 where
+mode-back : (m : Mode) → modeOf (isLong m) ≡ m
+mode-back Plain = refl
+mode-back Long = refl
+
+record MarksBack (reversed weak insides long : Bool) (marks : ℕ) : Type 0 where
   reversed-is : marked marks 1 ≡ reversed
   weak-is : marked marks 2 ≡ weak
   insides-is : marked marks 4 ≡ insides
+  long-is : marked marks 8 ≡ long
 
-marks-back : (a b c : Bool) → Marks a b c (markIf a 1 + markIf b 2 + markIf c 4)
+marks-back : (a b c d : Bool) → MarksBack a b c d (markIf a 1 + markIf b 2 + markIf c 4 + markIf d 8)
 unfolding markIf
-marks-back true true true = record { reversed-is = refl; weak-is = refl; insides-is = refl }
-marks-back true true false = record { reversed-is = refl; weak-is = refl; insides-is = refl }
-marks-back true false true = record { reversed-is = refl; weak-is = refl; insides-is = refl }
-marks-back true false false = record { reversed-is = refl; weak-is = refl; insides-is = refl }
-marks-back false true true = record { reversed-is = refl; weak-is = refl; insides-is = refl }
-marks-back false true false = record { reversed-is = refl; weak-is = refl; insides-is = refl }
-marks-back false false true = record { reversed-is = refl; weak-is = refl; insides-is = refl }
-marks-back false false false = record { reversed-is = refl; weak-is = refl; insides-is = refl }
+marks-back true true true true = record { reversed-is = refl; weak-is = refl; insides-is = refl; long-is = refl }
+marks-back true true true false = record { reversed-is = refl; weak-is = refl; insides-is = refl; long-is = refl }
+marks-back true true false true = record { reversed-is = refl; weak-is = refl; insides-is = refl; long-is = refl }
+marks-back true true false false = record { reversed-is = refl; weak-is = refl; insides-is = refl; long-is = refl }
+marks-back true false true true = record { reversed-is = refl; weak-is = refl; insides-is = refl; long-is = refl }
+marks-back true false true false = record { reversed-is = refl; weak-is = refl; insides-is = refl; long-is = refl }
+marks-back true false false true = record { reversed-is = refl; weak-is = refl; insides-is = refl; long-is = refl }
+marks-back true false false false = record { reversed-is = refl; weak-is = refl; insides-is = refl; long-is = refl }
+marks-back false true true true = record { reversed-is = refl; weak-is = refl; insides-is = refl; long-is = refl }
+marks-back false true true false = record { reversed-is = refl; weak-is = refl; insides-is = refl; long-is = refl }
+marks-back false true false true = record { reversed-is = refl; weak-is = refl; insides-is = refl; long-is = refl }
+marks-back false true false false = record { reversed-is = refl; weak-is = refl; insides-is = refl; long-is = refl }
+marks-back false false true true = record { reversed-is = refl; weak-is = refl; insides-is = refl; long-is = refl }
+marks-back false false true false = record { reversed-is = refl; weak-is = refl; insides-is = refl; long-is = refl }
+marks-back false false false true = record { reversed-is = refl; weak-is = refl; insides-is = refl; long-is = refl }
+marks-back false false false false = record { reversed-is = refl; weak-is = refl; insides-is = refl; long-is = refl }
 
 -- ---- the header, before whatever follows it
 module _ (h : Header) (r : List ℕ) where
@@ -77,12 +92,12 @@ module _ (h : Header) (r : List ℕ) where
 
   insides-by : (i : Insides) → h .insides ≡ i → KeptInsides i → insidesAt (headerBytes h ++ r) ≡ i
   unfolding headerBytes bytes8 u64Of insidesAt
-  insides-by Absent e k = rw (marks-back (h .reversed) (h .weak) (areThere (h .insides)) .insides-is, e)
+  insides-by Absent e k = rw (marks-back (h .reversed) (h .weak) (areThere (h .insides)) (isLong (h .mode)) .insides-is, e)
   insides-by (Two a b) e k =
       let c = k .0 .doubles in
       let d = k .1 .doubles in
       rw (
-        marks-back (h .reversed) (h .weak) (areThere (h .insides)) .insides-is,
+        marks-back (h .reversed) (h .weak) (areThere (h .insides)) (isLong (h .mode)) .insides-is,
         e,
         float-back (a .x) [] (c .x-fits),
         float-back (a .y) [] (c .y-fits),
@@ -96,8 +111,8 @@ module _ (h : Header) (r : List ℕ) where
 
   pub header-back : h .count < 65536 → KeptCap (h .cap) → KeptInsides (h .insides) → headerAt (headerBytes h ++ r) ≡ h
   header-back g c i =
-      let m = marks-back (h .reversed) (h .weak) (areThere (h .insides)) in
-      rw (count-back g, state-at, state-back (h .state), cap-back c, insides-by (h .insides) refl i, marks-at, m .reversed-is, m .weak-is)
+      let m = marks-back (h .reversed) (h .weak) (areThere (h .insides)) (isLong (h .mode)) in
+      rw (count-back g, state-at, state-back (h .state), cap-back c, insides-by (h .insides) refl i, marks-at, m .reversed-is, m .weak-is, m .long-is, mode-back (h .mode))
 
 -- ---- all of it
 module _ (a : Loop) (k : Kept a) (few : a .header .count ≤ 512) (for-positions : length (a .positions) ≡ 3 * a .header .count) (for-normals : length (a .normals) ≡ 3 * a .header .count) where

@@ -10,7 +10,7 @@ use Rattle.bytes_ask.specs.Ask.{numberOf}
 use Rattle.bytes_cut.specs.Cut.{triplesBy, toldOutcome}
 use Rattle.theorem_built.specs.Built as B
 use Rattle.theorem_built.specs.Built.{Answers, triangleCount}
-use Rattle.theorem_bytes.specs.Returned.{Cut, all, no-ear, Checked, Related, related, each-in-other}
+use Rattle.theorem_bytes.specs.Returned.{Cut, all, no-ear, Checked, Related, related, each-in-other, modes-differ}
 
 pub number : (m : ℕ) (t : Told) → Answers m t → numberOf t ≤ m
 number m t a = rw (a .is) (a .most)
@@ -35,5 +35,6 @@ check-number Full t e = ap numberOf e
 check-number Ring t a = number 1 t a
 
 pub pair-number : (h o : Header) (t : Told) → B.Related h o t → Related h o (numberOf t)
-pair-number h o t (B.related a) = related (number 5 t a)
-pair-number h o _ (B.each-in-other p q) = each-in-other p q
+pair-number h o t (B.related m a) = related m (number 5 t a)
+pair-number h o _ (B.each-in-other m p q) = each-in-other m p q
+pair-number h o _ (B.modes-differ d) = modes-differ d

@@ -1,4 +1,4 @@
--- What `desk_build_f64` filled is a loop as built, and is refused by 8 and 7 alone: the statement of specs/Slices.antt. Assumes nothing.
+-- What `desk_build_f64` or `desk_build_long_f64` filled is a loop as built in its mode, and is refused by 8, 7 and 11 alone: the statement of specs/Slices.antt. Assumes nothing.
 use Prim.Native.Nat.{ℕ, zero, suc, _*_, _≤_, _<_}
 use mathlib.Core.Path.{_≡_, refl, sym, ap, _∙_, subst}
 use mathlib.Core.Bool.{Bool}
@@ -13,12 +13,14 @@ use Rattle.laws.specs.Loop.{first}
 use Rattle.laws.proofs.Firsts.{first-zero, first-fine, test-none}
 use Rattle.vec3.specs.declared.Vec3.{Vec3}
 use Rattle.vec3.specs.Vec.{cleared}
+use Rattle.minor_arc.specs.declared.Mode.{Mode}
 use Rattle.judge.specs.Judge.{faultOf}
 use Rattle.loop_header.specs.declared.Header.{Header}
 use Rattle.loop_header.specs.Loops.{loopFault}
 use Rattle.loop_header.proofs.Sounds.{sound, sound-most}
 use Rattle.loop_build.specs.Build as B
 use Rattle.loop_build.specs.Build.{Doubles, openedCount, refusal}
+use Rattle.loop_build.proofs.Modes.{modes}
 use Rattle.loop_ask.specs.Questions.{queryFault}
 use Rattle.loop_distances.specs.Distances.{boundaryTold}
 use Rattle.loop_triangles.specs.Triangles as T
@@ -62,13 +64,14 @@ module _ (a : Loop) (b : AsBuilt a) where
       sym (header-state (headerBytes (a .header)) (header-width (a .header)) (sym (state-fine (headerBytes (a .header)) (a .header .state) t)))
 
 -- ---- what was filled
-record Read (a : Parts) : Type 0 where
+record Read (mode : Mode) (a : Parts) : Type 0 where
   loop : Loop
   made : AsBuilt loop
+  moded : loop .header .mode ≡ mode
   parts : a ≡ inParts loop
 
-module _ (l : List Float) (header : List ℕ) (ps ns : List Float) (cs : List ℕ) where
-  answered : (k : ℕ) → outOutcome (B.outcomeBy k l ps ns cs) header .number < 65536 → k ≡ 0
+module _ (mode : Mode) (l : List Float) (header : List ℕ) (ps ns : List Float) (cs : List ℕ) where
+  answered : (k : ℕ) → outOutcome (B.outcomeBy k mode l ps ns cs) header .number < 65536 → k ≡ 0
   answered zero h = refl
   answered (suc k) h = absurd (omega arith)
 
@@ -87,45 +90,59 @@ module _ (l : List Float) (header : List ℕ) (ps ns : List Float) (cs : List �
     few = ltb (openedCount l) 3
 
     abbrev made-header : Header
-    made-header = madeIf few l (openedCount l) .header
+    made-header = madeIf few mode l (openedCount l) .header
 
     unrefused : refusal l ps ns cs ≡ 0
     unrefused = first-zero (refusal l ps ns cs) (needFault (length header) 0) z .0
 
-    answer : B.buildOutcome l ps ns cs .answer ≡ B.loop made-header
+    answer : B.buildOutcome mode l ps ns cs .answer ≡ B.loop made-header
     unfolding B.buildOutcome
-    answer = rw unrefused (header-is l (openedCount l) ps ns cs few)
+    answer = rw unrefused (header-is mode l (openedCount l) ps ns cs few)
 
-    outcome : floatsOutcome l header ps ns cs ≡ outOutcome (B.buildOutcome l ps ns cs) header
+    outcome : floatsOutcome mode l header ps ns cs ≡ outOutcome (B.buildOutcome mode l ps ns cs) header
     unfolding floatsOutcome B.buildOutcome
     outcome = rw (z, unrefused)
 
-    filled-read : Read (partsOf (floatsOutcome l header ps ns cs))
+    filled-read : Read mode (partsOf (floatsOutcome mode l header ps ns cs))
     filled-read = record {
-      loop = handedBack made-header (B.buildOutcome l ps ns cs);
-      made = as-built l ps ns cs made-header d answer;
-      parts = ap partsOf outcome ∙ written (B.buildOutcome l ps ns cs) made-header answer (roomy (first-zero (refusal l ps ns cs) (needFault (length header) 0) z .1));
+      loop = handedBack made-header (B.buildOutcome mode l ps ns cs);
+      made = as-built mode l ps ns cs made-header d answer;
+      moded = modes l ps ns cs .stored mode made-header answer;
+      parts = ap partsOf outcome ∙ written (B.buildOutcome mode l ps ns cs) made-header answer (roomy (first-zero (refusal l ps ns cs) (needFault (length header) 0) z .1));
     }
 
-    small : floatsOutcome l header ps ns cs .number < 65536
+    small : floatsOutcome mode l header ps ns cs .number < 65536
     small =
-        let a = handedBack made-header (B.buildOutcome l ps ns cs) in
-        let m = sound-most (sound (a .header) (a .positions) (a .normals) (a .classes) (whole a (as-built l ps ns cs made-header d answer))) in
+        let a = handedBack made-header (B.buildOutcome mode l ps ns cs) in
+        let m = sound-most (sound (a .header) (a .positions) (a .normals) (a .classes) (whole a (as-built mode l ps ns cs made-header d answer))) in
         rw (outcome, answer) (omega (arith, m))
 
-pub some : (l : List Float) (header : List ℕ) (ps ns : List Float) (cs : List ℕ) → Doubles l → refusal l ps ns cs ≡ 0 → headerSize ≤ length header → Filled (partsOf (floatsOutcome l header ps ns cs))
-some l header ps ns cs d z r = filled l header ps ns cs d (small l header ps ns cs d (first-fine (refusal l ps ns cs) (needFault (length header) 0) z (need-none (length header) 0 r (λ h. absurd (omega arith)))))
+pub some : (mode : Mode) (l : List Float) (header : List ℕ) (ps ns : List Float) (cs : List ℕ) → Doubles l → refusal l ps ns cs ≡ 0 → headerSize ≤ length header
+    → Filled (partsOf (floatsOutcome mode l header ps ns cs))
+some mode l header ps ns cs d z r =
+    let none = first-fine (refusal l ps ns cs) (needFault (length header) 0) z (need-none (length header) 0 r (λ h. absurd (omega arith))) in
+    filled mode l header ps ns cs d (small mode l header ps ns cs d none)
 
-read : (a : Parts) → Filled a → Read a
-read _ (filled l header ps ns cs d h) = filled-read l header ps ns cs d (answered l header ps ns cs _ (unfold floatsOutcome in h))
+read-in : (mode : Mode) (l : List Float) (header : List ℕ) (ps ns : List Float) (cs : List ℕ) → Doubles l → floatsOutcome mode l header ps ns cs .number < 65536
+    → Read mode (partsOf (floatsOutcome mode l header ps ns cs))
+read-in mode l header ps ns cs d h = filled-read mode l header ps ns cs d (answered mode l header ps ns cs _ (unfold floatsOutcome in h))
+
+read : (a : Parts) → Filled a → (mode : Mode) × Read mode a
+read _ (filled mode l header ps ns cs d h) = (mode, read-in mode l header ps ns cs d h)
+
+again : {mode : Mode} {a : Parts} (found : Read mode a) → loopIn a ≡ found .loop
+again found = ap loopIn (found .parts) ∙ same (found .loop) (found .made)
+
+mode-again : {mode : Mode} {a : Parts} → Read mode a → headerAt (a .header) .mode ≡ mode
+mode-again found = ap (λ (x : Loop). x .header .mode) (again found) ∙ found .moded
 
 -- ---- the functions
 module _ (a : Parts) (w : Filled a) where
-  abbrev found : Read a
-  found = read a w
+  abbrev found : Read (read a w .0) a
+  found = read a w .1
 
   is-built : AsBuilt (loopIn a)
-  is-built = subst (λ (x : Loop). AsBuilt x) (sym (ap loopIn (found .parts) ∙ same (found .loop) (found .made))) (found .made)
+  is-built = subst (λ (x : Loop). AsBuilt x) (sym (again found)) (found .made)
 
   frame : headerFault (a .header) ≡ 0
   frame = ap (λ (x : Parts). headerFault (x .header)) (found .parts) ∙ headed (found .loop) (found .made)
@@ -158,6 +175,7 @@ module _ (a b : Parts) (w : Filled a) (v : Filled b) where
 pub sliced : Slices
 sliced = record {
   build = some;
+  mode = λ mode l header ps ns cs d h. mode-again (read-in mode l header ps ns cs d h);
   as-built = is-built;
   header-fault = frame;
   loop-fault = fine;

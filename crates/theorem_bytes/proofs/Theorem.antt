@@ -1,4 +1,4 @@
--- Loops as built are refused over bytes by 8, 7 and 9 alone: the statement of specs/Returned.antt, function by function. Assumes nothing.
+-- Loops as built are refused over bytes by 8, 9, 7 and 11 alone: the statement of specs/Returned.antt, function by function. Assumes nothing.
 use Prim.Native.Nat.{ℕ, _*_, _/_, _%_, _≤_}
 use mathlib.Core.Path.{_≡_, refl, sym, ap, _∙_, subst}
 use mathlib.Core.Bool.{true}
@@ -33,20 +33,18 @@ use Rattle.theorem_built.specs.Built.{Loop, AsBuilt, Answers, triangleCount}
 use Rattle.theorem_built.proofs.Theorem.{built, uncut}
 use Rattle.theorem_bytes.specs.Returned.{bytesOf, loopAt, Written, Cut, Checked, Related, Returned}
 use Rattle.theorem_bytes.proofs.Numbers.{number, triples-same, cut-number, laid-number, check-number, pair-number}
-use Rattle.theorem_bytes.proofs.Writes.{same, framed, Read, read, some}
+use Rattle.theorem_bytes.proofs.Writes.{same, framed, Read, read-in, read, again, mode-again, some}
+use Rattle.theorem_bytes.proofs.Marks.{marks}
 
 module _ (s : List ℕ) (w : Written s) where
-  abbrev found : Read s
-  found = read s w
-
-  again : loopAt s ≡ found .loop
-  again = ap loopAt (found .bytes) ∙ same (found .loop) (found .built)
+  abbrev found : Read (read s w .0) s
+  found = read s w .1
 
   as-built : AsBuilt (loopAt s)
-  as-built = subst (λ (a : Loop). AsBuilt a) (sym again) (found .built)
+  as-built = subst (λ (a : Loop). AsBuilt a) (sym (again found)) (found .built)
 
   whole : s ≡ bytesOf (loopAt s)
-  whole = found .bytes ∙ ap bytesOf (sym again)
+  whole = found .bytes ∙ ap bytesOf (sym (again found))
 
   frame : frameFault s ≡ 0
   frame = ap frameFault (found .bytes) ∙ framed (found .loop) (found .built)
@@ -119,7 +117,8 @@ module _ (s r : List ℕ) (w : Written s) (v : Written r) where
 pub returned : Returned
 returned = record {
   build = some;
-  round-trip = record { same = same; as-built = as-built; whole = whole };
+  round-trip = record { same = same; as-built = as-built; whole = whole; mode = λ mode list out h. mode-again (read-in mode list out h) };
+  marks = marks;
   frame-fault = frame;
   loop-fault = fine;
   desk-place = place;

@@ -1,4 +1,4 @@
--- SCOPE 40 with the header alone in bytes: what `desk_build_f64` filled, handed back with as much of each slice as its count says, is refused by none of 1 to 6
+-- SCOPE 40 with the header alone in bytes: what `desk_build_f64` or `desk_build_long_f64` filled, handed back with as much of each slice as its count says, is refused by none of 1 to 6
 -- (SCOPE 32, 33, 34). Of lists of doubles, as every lent slice is. Proved in proofs/Sliced.antt. Definitions only.
 use Prim.Native.Nat.{ℕ, _*_, _≤_, _<_}
 use mathlib.Core.Path.{_≡_}
@@ -7,6 +7,7 @@ use lib.ListN.{length, take}
 use lib.Ieee.{Float}
 use Rattle.vec3.specs.declared.Vec3.{Vec3}
 use Rattle.vec3.specs.Vec.{cleared}
+use Rattle.minor_arc.specs.declared.Mode.{Mode}
 use Rattle.judge.specs.Judge.{faultOf}
 use Rattle.loop_header.specs.Loops.{loopFault}
 use Rattle.loop_build.specs.Build.{Doubles, refusal}
@@ -34,14 +35,19 @@ loopIn a = record { header = headerAt (a .header); positions = a .positions; nor
 abbrev pub partsOf : FloatsOutcome → Parts
 partsOf o = record { header = take headerSize (o .header); positions = take (3 * o .number) (o .positions); normals = take (3 * o .number) (o .normals); classes = take (o .number) (o .classes) }
 
--- SCOPE 33: `desk_build_f64` answered a count, which is below 65,536
+-- SCOPE 33, 57: `desk_build_f64`, or in long mode `desk_build_long_f64`, answered a count, which is below 65,536
 pub data Filled : Parts → Type 0 where
-  filled : (l : List Float) (header : List ℕ) (ps ns : List Float) (cs : List ℕ) → Doubles l → floatsOutcome l header ps ns cs .number < 65536 → Filled (partsOf (floatsOutcome l header ps ns cs))
+  filled : (mode : Mode) (l : List Float) (header : List ℕ) (ps ns : List Float) (cs : List ℕ) → Doubles l → floatsOutcome mode l header ps ns cs .number < 65536
+      → Filled (partsOf (floatsOutcome mode l header ps ns cs))
 
 -- SCOPE 33, 34, 40: for a query that is fine and an output with room
 pub record Slices : Type 0 where
   -- every list of doubles that is not refused, with room for the header, makes one
-  pub build : (l : List Float) (header : List ℕ) (ps ns : List Float) (cs : List ℕ) → Doubles l → refusal l ps ns cs ≡ 0 → headerSize ≤ length header → Filled (partsOf (floatsOutcome l header ps ns cs))
+  pub build : (mode : Mode) (l : List Float) (header : List ℕ) (ps ns : List Float) (cs : List ℕ) → Doubles l → refusal l ps ns cs ≡ 0 → headerSize ≤ length header
+      → Filled (partsOf (floatsOutcome mode l header ps ns cs))
+  -- SCOPE 57: its mode is the one that it was built in, EMPTY's and FULL's too
+  pub mode : (mode : Mode) (l : List Float) (header : List ℕ) (ps ns : List Float) (cs : List ℕ) → Doubles l → floatsOutcome mode l header ps ns cs .number < 65536
+      → headerAt (partsOf (floatsOutcome mode l header ps ns cs) .header) .mode ≡ mode
   -- it is a loop as built, and neither its header's bytes nor the loop are refused
   pub as-built : (a : Parts) → Filled a → AsBuilt (loopIn a)
   pub header-fault : (a : Parts) → Filled a → headerFault (a .header) ≡ 0

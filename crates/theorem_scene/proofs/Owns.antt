@@ -1,4 +1,4 @@
--- A call's own refusal in a scene is 2, 3, 4 or 7: the lists have room and areas are loops as built, so that there is no reason for another. 3 and 4 stand at the
+-- A call's own refusal in a scene is 2, 3, 4 or 7: the lists have room and areas are loops as built in plain mode, so that there is no reason for another. 3 and 4 stand at the
 -- index that they come with. Assumes nothing.
 use Prim.Native.Nat.{ℕ, zero, suc, _+_, _-_, _*_, _/_, _≤_, _<_}
 use mathlib.Core.Path.{_≡_, refl, sym, ap, subst, _∙_}
@@ -17,6 +17,7 @@ use Rattle.judge.specs.Why.{Then, stops, goes-on, at, nowhere, PositionWhy, fin
 use Rattle.judge.proofs.Exact as Judge
 use Rattle.wire.specs.Wire.{vecOf}
 use Rattle.ring_corners.proofs.Openings.{opened-le}
+use Rattle.minor_arc.specs.declared.Mode.the-variants.{Plain}
 use Rattle.loop_header.specs.declared.Header.{Header}
 use Rattle.loop_header.specs.Why.{LoopWhy}
 use Rattle.loop_header.proofs.Exact as Loops
@@ -40,7 +41,7 @@ use Rattle.scene_notes.proofs.Tables.{allowed, all-met}
 use Rattle.scene_steps.specs.Steps.{Step, ended, faulty, refused, refusedAt, wrote, refusal, refusedIndex, passedBy, areaTold, areaOut, areaMade, areaBy, areaStep, met}
 use Rattle.scene_steps.specs.Steps.{placeTold, saidOf, placeMet, placeBy, placeStep, pairTold, pairMet, pairBy, pairStep, stepBy, step}
 use Rattle.scene_run.proofs.Floats.{position-read}
-use Rattle.theorem_built.specs.Built.{Loop, AsBuilt, Related, related, each-in-other}
+use Rattle.theorem_built.specs.Built.{Loop, AsBuilt, Related, related, each-in-other, modes-differ}
 use Rattle.theorem_built.proofs.Theorem as Built
 use Rattle.theorem_scene.specs.Why.{IsArea, IsPlace, numberOf}
 use Rattle.theorem_scene.specs.Why as Why
@@ -65,10 +66,11 @@ standing : (l : List Float) (n k : ℕ) → PositionsWhy l n k → 0 < k → Sta
 standing l n zero w h = absurd (not-suc-le-zero h)
 standing l n (suc k) w h = Judge.exact .index l n k (Judge.exact .positions l n .why-given (suc k) w)
 
--- a relation of two loops as built is refused with 7 alone
-seven : (h o : Header) (t : Ask.Told) → Related h o t → (k : ℕ) → t ≡ Ask.refused k → k ≡ 7
-seven h o t (related a) k e = absurd (let z : Ask.answer (a .number) ≡ Ask.refused k = sym (a .is) ∙ e in let y : _≡_ {A = ℕ} 0 1 = cc in omega arith)
-seven h o _ (each-in-other p q) k e = let z : 7 ≡ k = cc in sym z
+-- a relation of two loops as built in one mode is refused with 7 alone
+seven : (h o : Header) (t : Ask.Told) → h .mode ≡ o .mode → Related h o t → (k : ℕ) → t ≡ Ask.refused k → k ≡ 7
+seven h o t m (related n a) k e = absurd (let z : Ask.answer (a .number) ≡ Ask.refused k = sym (a .is) ∙ e in let y : _≡_ {A = ℕ} 0 1 = cc in omega arith)
+seven h o _ m (each-in-other n p q) k e = let z : 7 ≡ k = cc in sym z
+seven h o _ m (modes-differ d) k e = absurd (d m)
 
 module _ (s : List ℕ) (w : Scene) where
   -- ---- what a step says of a call's own refusal
@@ -144,19 +146,22 @@ module _ (s : List ℕ) (w : Scene) where
       build-own _ (stops y) h = list-own _ y h
       build-own k (goes-on y z) h = absurd (room-own k z h)
 
-      answer-is : areaOut s w count .answer ≡ buildOutcome l ps ns cs .answer
+      answer-is : areaOut s w count .answer ≡ buildOutcome Plain l ps ns cs .answer
       unfolding builtAt
       answer-is = refl
 
       area-told : (number : ℕ) (t : B.Told) → t ≡ areaOut s w count .answer → OwnWhy (areaTold s w number count (areaOut s w count) t)
       area-told number (B.refused k) e =
-          let y = Build.exact l ps ns cs .building .given-why k (sym (e ∙ answer-is)) in
+          let y = Build.exact l ps ns cs .building Plain .given-why k (sym (e ∙ answer-is)) in
           build-own k (y .1) (y .0)
       area-told number (B.loop h) e = tt
 
     -- ---- an area that was met, in its part of the store
     met-built : (number : ℕ) → indexOf (w .areas) number < length (w .areas) → AsBuilt (loopIn (met w number) (w .positions) (w .normals) (w .classes))
     met-built number h = kept .stored .built (indexOf (w .areas) number) h
+
+    met-plain : (number : ℕ) → indexOf (w .areas) number < length (w .areas) → met w number .header .mode ≡ Plain
+    met-plain number h = kept .stored .plain (indexOf (w .areas) number) h
 
     -- ---- a place or a far, which is a list of one
     abbrev p : Vec3
@@ -228,7 +233,7 @@ module _ (s : List ℕ) (w : Scene) where
     pair-told number other m n (Ask.refused k) e =
         let r = Built.built .relate (loopIn (met w number) (w .positions) (w .normals) (w .classes)) (loopIn (met w other) (w .positions) (w .normals) (w .classes))
         (met-built number m) (met-built other n) in
-        inr (seven _ _ _ r k (sym e))
+        inr (seven _ _ _ (met-plain number m ∙ sym (met-plain other n)) r k (sym e))
     pair-told number other m n (Ask.answer k) e = tt
 
     -- ---- by what was judged, and by what was read

@@ -1,4 +1,4 @@
--- Between two records every area met is a loop as built, in its own part of the store, and the store keeps its size. Assumes nothing.
+-- Between two records every area met is a loop as built, in plain mode and in its own part of the store, and the store keeps its size. Assumes nothing.
 use Prim.Native.Nat.{ℕ, zero, suc, _+_, _*_, _≤_, _<_}
 use mathlib.Core.Path.{_≡_, refl, sym, ap, subst, _∙_}
 use mathlib.Core.Bool.{Bool, true, false}
@@ -13,11 +13,13 @@ use lib.Ieee.{Float}
 use borrow.Author.Tests.{ltb-false}
 use Rattle.vec3.proofs.Arrays.{size}
 use Rattle.ring_corners.specs.Corners.{reversal, cornerAt, normalAt, ringOf, normalsOf, classesOf, allBoth}
+use Rattle.minor_arc.specs.declared.Mode.the-variants.{Plain}
 use Rattle.loop_header.specs.declared.Header.{Header}
 use Rattle.loop_build.specs.Build as B
 use Rattle.loop_build.specs.Build.{openedCount, madeIf, made, outcomeIf, outcomeBy, buildOutcome}
 use Rattle.loop_build.proofs.Rooms.{fine, room}
 use Rattle.loop_build.proofs.Builts.{codes-count}
+use Rattle.loop_build.proofs.Modes.{modes}
 use Rattle.loop_ask.specs.Answers as Ask
 use Rattle.scene_lines.specs.declared.Line.{Line}
 use Rattle.scene_records.specs.declared.Read.{Read}
@@ -49,7 +51,7 @@ replaced : {A : Type 0} (n : ℕ) (front l : List A) → length front ≡ n → 
 replaced n front l e h = length-append front (drop n l) ∙ rw (e, length-drop) (omega arith)
 
 module _ (l ps ns : List Float) (cs : List ℕ) where
-  of-made : (b r : Bool) (n : ℕ) → 3 * n ≤ length ps → 3 * n ≤ length ns → n ≤ length cs → Same (B.outcomeOf (madeIf b l n r ps ns cs)) ps ns cs
+  of-made : (b r : Bool) (n : ℕ) → 3 * n ≤ length ps → 3 * n ≤ length ns → n ≤ length cs → Same (B.outcomeOf (madeIf b Plain l n r ps ns cs)) ps ns cs
   of-made true r n p q c = record { positions = refl; normals = refl; classes = refl }
   of-made false r n p q c = record {
     positions = replaced (3 * n) (ringOf l n r) ps (size (cornerAt l n r) n) p;
@@ -57,7 +59,7 @@ module _ (l ps ns : List Float) (cs : List ℕ) where
     classes = replaced n (classesOf l n r) cs (codes-count l n r) c;
   }
 
-  of-count : (b : Bool) → ltb (openedCount l) 3 ≡ b → B.refusal l ps ns cs ≡ 0 → Same (outcomeIf b l (openedCount l) ps ns cs) ps ns cs
+  of-count : (b : Bool) → ltb (openedCount l) 3 ≡ b → B.refusal l ps ns cs ≡ 0 → Same (outcomeIf b Plain l (openedCount l) ps ns cs) ps ns cs
   unfolding made
   of-count true t z = record { positions = refl; normals = refl; classes = refl }
   of-count false t z =
@@ -65,11 +67,11 @@ module _ (l ps ns : List Float) (cs : List ℕ) where
       let r = room n (length ps) (length ns) (length cs) (fine l ps ns cs z .1) (ltb-false _ _ t) in
       of-made (allBoth (classesOf l n (reversal l n))) (reversal l n) n (r .for-positions) (r .for-normals) (r .for-classes)
 
-  of-refusal : (k : ℕ) → B.refusal l ps ns cs ≡ k → Same (outcomeBy k l ps ns cs) ps ns cs
+  of-refusal : (k : ℕ) → B.refusal l ps ns cs ≡ k → Same (outcomeBy k Plain l ps ns cs) ps ns cs
   of-refusal zero z = of-count (ltb (openedCount l) 3) refl z
   of-refusal (suc k) z = record { positions = refl; normals = refl; classes = refl }
 
-  same-sizes : Same (buildOutcome l ps ns cs) ps ns cs
+  same-sizes : Same (buildOutcome Plain l ps ns cs) ps ns cs
   unfolding buildOutcome
   same-sizes = of-refusal (B.refusal l ps ns cs) refl
 
@@ -98,6 +100,7 @@ pub record Stored (w : Scene) : Type 0 where
   pub normals-size : length (w .normals) ≡ 3072
   pub classes-size : length (w .classes) ≡ 1024
   pub built : (i : ℕ) → i < length (w .areas) → AsBuilt (loopIn (getD (w .areas) i nobody) (w .positions) (w .normals) (w .classes))
+  pub plain : (i : ℕ) → i < length (w .areas) → getD (w .areas) i nobody .header .mode ≡ Plain
 
 -- ---- what a record that comes to a line leaves: the store as it was, or one area more in it
 data Went (s : List ℕ) (w : Scene) : Scene → Type 0 where
@@ -150,7 +153,7 @@ module _ {s : List ℕ} {w : Scene} {line : Line} {v : Scene} where
 module _ (s : List ℕ) (w : Scene) (g : Good s w) (z : Stored w) (number count : ℕ) (h : Header) (e : B.loop h ≡ areaOut s w count .answer) where
   -- the build that this was, into the rest of the store
   abbrev rested : B.Outcome
-  rested = buildOutcome (floatsAt s (w .at + 8) count) (drop (3 * w .used) (w .positions)) (drop (3 * w .used) (w .normals)) (drop (w .used) (w .classes))
+  rested = buildOutcome Plain (floatsAt s (w .at + 8) count) (drop (3 * w .used) (w .positions)) (drop (3 * w .used) (w .normals)) (drop (w .used) (w .classes))
 
   outcome-is : areaOut s w count ≡ after (w .used) (w .positions) (w .normals) (w .classes) rested
   unfolding builtAt
@@ -174,6 +177,12 @@ module _ (s : List ℕ) (w : Scene) (g : Good s w) (z : Stored w) (number count 
   abbrev new : Area
   new = areaAt (w .used) number h
 
+  answered : rested .answer ≡ B.loop h
+  answered = sym (e ∙ ap (λ (o : B.Outcome). o .answer) outcome-is)
+
+  new-plain : h .mode ≡ Plain
+  new-plain = modes (floatsAt s (w .at + 8) count) _ _ _ .stored Plain h answered
+
   new-built : AsBuilt (loopIn new (areaOut s w count .positions) (areaOut s w count .normals) (areaOut s w count .classes))
   new-built =
       rw (
@@ -182,7 +191,7 @@ module _ (s : List ℕ) (w : Scene) (g : Good s w) (z : Stored w) (number count 
         later (3 * w .used) (3 * h .count) (w .normals) (rested .normals) n-fits,
         later (w .used) (h .count) (w .classes) (rested .classes) c-fits,
       )
-      (as-built (floatsAt s (w .at + 8) count) _ _ _ h (read-doubles s (w .at + 8) count) (sym (e ∙ ap (λ (o : B.Outcome). o .answer) outcome-is)))
+      (as-built Plain (floatsAt s (w .at + 8) count) _ _ _ h (read-doubles s (w .at + 8) count) answered)
 
   old-built : (a : Area) → a .start + a .header .count ≤ w .used → AsBuilt (loopIn a (w .positions) (w .normals) (w .classes))
       → AsBuilt (loopIn a (areaOut s w count .positions) (areaOut s w count .normals) (areaOut s w count .classes))
@@ -194,12 +203,14 @@ module _ (s : List ℕ) (w : Scene) (g : Good s w) (z : Stored w) (number count 
         earlier (a .start) (a .header .count) (w .used) (w .classes) (rested .classes) f c-fits,
       ) b
 
-  each-built : (i : ℕ) → i < length (w .areas ++ (new ∷ [])) → AsBuilt (loopIn (getD (w .areas ++ (new ∷ [])) i nobody) (areaOut s w count .positions) (areaOut s w count .normals) (areaOut s w count .classes))
-  each-built i k =
+  -- what holds of the new area and of each that was met holds of all
+  each : (P : Area → Type 0) → P new → ((i : ℕ) → i < length (w .areas) → P (getD (w .areas) i nobody)) → (i : ℕ) → i < length (w .areas ++ (new ∷ []))
+      → P (getD (w .areas ++ (new ∷ [])) i nobody)
+  each P last first i k =
       let within : i ≤ length (w .areas) = omega (arith, simp length-append at k) in
       ⊎-elim
-      (λ q. let p : i ≡ length (w .areas) + 0 = omega arith in rw (p, getD-append-add (w .areas) (new ∷ []) 0 nobody) new-built)
-      (λ q. rw (List·getD-append (w .areas) (new ∷ []) nobody i q) (old-built (getD (w .areas) i nobody) (g .inside i q) (z .built i q)))
+      (λ q. let p : i ≡ length (w .areas) + 0 = omega arith in rw (p, getD-append-add (w .areas) (new ∷ []) 0 nobody) last)
+      (λ q. rw (List·getD-append (w .areas) (new ∷ []) nobody i q) (first i q))
       (eq-or-lt-of-le within)
 
   added-stored : Stored (withArea w new count (areaOut s w count))
@@ -209,11 +220,14 @@ module _ (s : List ℕ) (w : Scene) (g : Good s w) (z : Stored w) (number count 
         positions-size = ap (λ (o : B.Outcome). length (o .positions)) outcome-is ∙ grown (3 * w .used) (w .positions) (rested .positions) p-fits (kept .positions) ∙ z .positions-size;
         normals-size = ap (λ (o : B.Outcome). length (o .normals)) outcome-is ∙ grown (3 * w .used) (w .normals) (rested .normals) n-fits (kept .normals) ∙ z .normals-size;
         classes-size = ap (λ (o : B.Outcome). length (o .classes)) outcome-is ∙ grown (w .used) (w .classes) (rested .classes) c-fits (kept .classes) ∙ z .classes-size;
-        built = each-built;
+        built =
+            each (λ a. AsBuilt (loopIn a (areaOut s w count .positions) (areaOut s w count .normals) (areaOut s w count .classes))) new-built
+            (λ i q. old-built (getD (w .areas) i nobody) (g .inside i q) (z .built i q));
+        plain = each (λ a. a .header .mode ≡ Plain) new-plain (z .plain);
       }
 
 went-stored : (s : List ℕ) (w v : Scene) → Good s w → Stored w → Went s w v → Stored v
-went-stored s w _ g z (passed n) = record { positions-size = z .positions-size; normals-size = z .normals-size; classes-size = z .classes-size; built = z .built }
+went-stored s w _ g z (passed n) = record { positions-size = z .positions-size; normals-size = z .normals-size; classes-size = z .classes-size; built = z .built; plain = z .plain }
 went-stored s w _ g z (added number count h e) = added-stored s w g z number count h e
 
 -- ---- so it is at every record reached
@@ -228,6 +242,7 @@ blank-stored = record {
   normals-size = rw length-replicate refl;
   classes-size = rw length-replicate refl;
   built = λ i h. absurd (not-suc-le-zero h);
+  plain = λ i h. absurd (not-suc-le-zero h);
 }
 
 pub reached-kept : (s : List ℕ) → length s ≤ 65536 → (lines : List Line) (w : Scene) → Reached s lines w → Kept s w

@@ -34,7 +34,7 @@ pub record Ended (s : List ℕ) : Type 0 where
   pub reached : Reached s (sceneTold s .lines) last
   pub stops : Stops last (step s last) (sceneTold s .ending)
 
--- ---- the numbers of a last line: 10 is none of them, nor 1, 5, 6, 8 or 9
+-- ---- the numbers of a last line: 10 is none of them, nor 1, 5, 6, 8 or 9; nor 11, as all areas are built in one mode (SCOPE 54)
 pub data Numbered : Line → Type 0 where
   none : (records : ℕ) → Numbered (End records)
   of-scene : (k offset field : ℕ) → 20 ≤ k → k ≤ 28 → Numbered (Refused k offset field)

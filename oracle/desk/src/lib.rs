@@ -24,6 +24,7 @@ impl Refusal {
             7 => "each of two loops is found in the other",
             8 => "the ring cannot be cut into triangles",
             9 => "triangles of an empty or full loop cannot be checked",
+            11 => "one of two loops is of the plain mode, the other of the long one",
             20 => "a record is cut short",
             21 => "a record's kind is unknown",
             22 => "a record's length is wrong for its kind",
@@ -176,6 +177,26 @@ pub fn full_positions() -> Answered<[Position; 12]> {
     Ok(std::array::from_fn(|i| [out[3 * i], out[3 * i + 1], out[3 * i + 2]]))
 }
 
+/// How arcs meet, a loop's edges among them. Two great circles meet in a point and its opposite.
+#[derive(Clone, Copy, Debug, Default, PartialEq, Eq, Hash)]
+pub enum Mode {
+    /// The point on the side of the first arc's start is the only one tried, and a loop's cap is asked first. A meeting a quarter circle or
+    /// more from that start is missed, so this is for arcs, and for loops across, below a quarter circle.
+    #[default]
+    Plain,
+    /// Both points are tried, and no cap is asked.
+    Long,
+}
+
+impl Display for Mode {
+    fn fmt(&self, f: &mut Formatter) -> fmt::Result {
+        f.write_str(match self {
+            Mode::Plain => "plain",
+            Mode::Long => "long",
+        })
+    }
+}
+
 /// Where a position lies. One on the border, a corner or on an edge, may be told inside or outside: `has_vertex` and
 /// `any_edge_contains` tell of the border.
 #[derive(Clone, Copy, Debug, PartialEq, Eq)]
@@ -234,11 +255,20 @@ impl Display for Relation {
 pub struct Loop(Vec<u8>);
 
 impl Loop {
-    /// Builds a loop from a list of positions.
+    /// Builds a loop from a list of positions, in plain mode.
     pub fn build(list: &[Position]) -> Answered<Loop> {
+        Loop::build_in(Mode::Plain, list)
+    }
+
+    /// Builds a loop of that mode: long where a side, or the loop across, may be a quarter circle or more, and for whatever is to be related to
+    /// such a loop.
+    pub fn build_in(mode: Mode, list: &[Position]) -> Answered<Loop> {
         let given: Vec<u8> = list.iter().flat_map(|p| bytes(*p)).collect();
         let mut out = vec![0; HEADER + 49 * list.len()];
-        let n = answered(raw::desk_build(&given, &mut out))?;
+        let n = answered(match mode {
+            Mode::Plain => raw::desk_build(&given, &mut out),
+            Mode::Long => raw::desk_build_long(&given, &mut out),
+        })?;
         out.truncate(HEADER + 49 * n as usize);
         Ok(Loop(out))
     }
@@ -278,6 +308,11 @@ impl Loop {
         self.0[3] & 2 != 0
     }
 
+    /// The mode that the loop was built in, which its places, its relations and `is_simple` go by.
+    pub fn mode(&self) -> Mode {
+        if self.0[3] & 8 != 0 { Mode::Long } else { Mode::Plain }
+    }
+
     /// The corner of that number, counted from 0; none from `count` on.
     pub fn vertex(&self, i: usize) -> Option<Position> {
         (i < self.count()).then(|| position(&self.0[HEADER + 24 * i..]))
@@ -299,7 +334,7 @@ impl Loop {
         chord(raw::desk_far(&self.0, &bytes(p), &mut out), out)
     }
 
-    /// How this loop stands to another.
+    /// How this loop stands to another of the same mode; one of the other mode is refused with 11.
     pub fn relate(&self, o: &Loop) -> Answered<Relation> {
         Ok(match answered(raw::desk_pair(&self.0, &o.0))? {
             0 => Relation::Disjoint,
@@ -346,7 +381,7 @@ impl Loop {
         yes(raw::desk_on_edge(&self.0, &bytes(p)))
     }
 
-    /// Whether the loops have the same corners and classes, whatever the start and direction.
+    /// Whether the loops have the same corners and classes, whatever the start and direction, and whatever the modes.
     pub fn is_equivalent(&self, o: &Loop) -> Answered<bool> {
         yes(raw::desk_equivalent(&self.0, &o.0))
     }
@@ -362,7 +397,8 @@ impl Display for Loop {
         };
         let turned = if self.reversed() { "reversed" } else { "kept" };
         let sure = if self.weak() { "weak" } else { "steady" };
-        write!(f, "{state} of {} corners, {turned}, {sure}", self.count())
+        write!(f, "{state} of {} corners, {turned}, {sure}", self.count())?;
+        if self.mode() == Mode::Long { f.write_str(", long") } else { Ok(()) }
     }
 }
 
@@ -469,17 +505,34 @@ impl Arc {
         chord(raw::desk_arc_far(&self.0, &bytes(p), &mut out), out)
     }
 
-    /// Where two arcs meet, if they do in one point.
+    /// Where two arcs meet, if they do in one point, in plain mode.
     pub fn intersection(&self, o: &Arc) -> Answered<Option<Position>> {
+        self.intersection_in(Mode::Plain, o)
+    }
+
+    /// Where two arcs meet in that mode, if they do in one point.
+    pub fn intersection_in(&self, mode: Mode, o: &Arc) -> Answered<Option<Position>> {
         let mut out = [0; 24];
-        let found = yes(raw::desk_arc_intersection(&self.0, &o.0, &mut out))?;
+        let found = yes(match mode {
+            Mode::Plain => raw::desk_arc_intersection(&self.0, &o.0, &mut out),
+            Mode::Long => raw::desk_arc_intersection_long(&self.0, &o.0, &mut out),
+        })?;
         Ok(found.then(|| position(&out)))
     }
 
-    /// How two arcs stand to each other.
+    /// How two arcs stand to each other in plain mode.
     pub fn relate(&self, o: &Arc) -> Answered<ArcRelation> {
+        self.relate_in(Mode::Plain, o)
+    }
+
+    /// How two arcs stand to each other in that mode; what collinear ones share is the same in both.
+    pub fn relate_in(&self, mode: Mode, o: &Arc) -> Answered<ArcRelation> {
         let mut out = [0; 72];
-        Ok(match answered(raw::desk_arc_relate(&self.0, &o.0, &mut out))? {
+        let relation = answered(match mode {
+            Mode::Plain => raw::desk_arc_relate(&self.0, &o.0, &mut out),
+            Mode::Long => raw::desk_arc_relate_long(&self.0, &o.0, &mut out),
+        })?;
+        Ok(match relation {
             0 => ArcRelation::Disjoint,
             1 => ArcRelation::Intersecting(position(&out[..24])),
             2 => ArcRelation::Touching(position(&out[..24])),

@@ -120,4 +120,13 @@ exports! {
     /// As `desk_far`, on parts.
     has_desk_far_f64 desk_far_f64(header: bytes, positions: floats, normals: floats, classes: bytes,
         x: float, y: float, z: float, out: out_floats) -> u32;
+    /// As `desk_build`, in long mode.
+    has_desk_build_long desk_build_long(list: bytes, out: out_bytes) -> u32;
+    /// As `desk_build_f64`, in long mode.
+    has_desk_build_long_f64 desk_build_long_f64(list: floats, header: out_bytes, positions: out_floats,
+        normals: out_floats, classes: out_bytes) -> u32;
+    /// As `desk_arc_intersection`, in long mode.
+    has_desk_arc_intersection_long desk_arc_intersection_long(a: bytes, b: bytes, out: out_bytes) -> u32;
+    /// As `desk_arc_relate`, in long mode.
+    has_desk_arc_relate_long desk_arc_relate_long(a: bytes, b: bytes, out: out_bytes) -> u32;
 }

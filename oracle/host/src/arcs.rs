@@ -36,7 +36,7 @@ fn circle(r: &mut Random) -> impl Fn(f64) -> P + use<> {
 }
 
 /// Two arcs that stand to each other in some way worth trying.
-fn two(r: &mut Random) -> [P; 4] {
+pub fn two(r: &mut Random) -> [P; 4] {
     let (a, b) = ends(r);
     match r.below(12) {
         0 => [a, b, b, r.position()],
@@ -154,8 +154,8 @@ fn near_point(r: &mut Random, q: [P; 4]) -> P {
     }
 }
 
-fn room(r: &mut Random) -> Arg {
-    Arg::OutBytes(blank(*r.pick(&[72, 72, 72, 100, 71, 24, 23, 0])))
+pub fn room(r: &mut Random) -> Vec<u8> {
+    blank(*r.pick(&[72, 72, 72, 100, 71, 24, 23, 0]))
 }
 
 pub fn arcs(t: &mut Tally, r: &mut Random, n: usize) {
@@ -180,15 +180,15 @@ pub fn arcs(t: &mut Tally, r: &mut Random, n: usize) {
             }
         }
         let by = |b: &Vec<u8>| Arg::Bytes(b.clone());
-        let out = room(r);
+        let out = Arg::OutBytes(room(r));
         t.put(Export::Arc, vec![by(&s), by(&e), out]);
-        let out = room(r);
+        let out = Arg::OutBytes(room(r));
         t.put(Export::ArcOpposite, vec![by(&a), out]);
         t.put(Export::ArcSide, vec![by(&a), by(&p)]);
         t.put(Export::ArcContains, vec![by(&a), by(&p)]);
-        let out = room(r);
+        let out = Arg::OutBytes(room(r));
         t.put(Export::ArcIntersection, vec![by(&a), by(&b), out]);
-        let out = room(r);
+        let out = Arg::OutBytes(room(r));
         t.put(Export::ArcRelate, vec![by(&a), by(&b), out]);
     }
 }

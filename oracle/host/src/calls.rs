@@ -8,18 +8,18 @@ pub enum Export {
     Root, Atan2, Build, Place, Pair, Triangles, Accepts, Convex, Simple, Vertex, OnEdge, Equivalent,
     Arc, ArcOpposite, ArcSide, ArcContains, ArcIntersection, ArcRelate,
     BuildF64, PlaceF64, PairF64, TrianglesF64, FullPositions, LeafVec, LeafNumber, LeafCase, LeafCap, Scene,
-    Radians, Far, ArcFar, FarF64,
+    Radians, Far, ArcFar, FarF64, BuildLong, BuildLongF64, ArcIntersectionLong, ArcRelateLong,
 }
 
 impl Export {
     #[rustfmt::skip]
-    pub const ALL: [Export; 32] = {
+    pub const ALL: [Export; 36] = {
         use Export::*;
         [
             Root, Atan2, Build, Place, Pair, Triangles, Accepts, Convex, Simple, Vertex, OnEdge, Equivalent,
             Arc, ArcOpposite, ArcSide, ArcContains, ArcIntersection, ArcRelate,
             BuildF64, PlaceF64, PairF64, TrianglesF64, FullPositions, LeafVec, LeafNumber, LeafCase, LeafCap, Scene,
-            Radians, Far, ArcFar, FarF64,
+            Radians, Far, ArcFar, FarF64, BuildLong, BuildLongF64, ArcIntersectionLong, ArcRelateLong,
         ]
     };
 }
@@ -188,6 +188,14 @@ macro_rules! dispatch {
                 Export::FarF64,
                 [Bytes(h), Floats(p), Floats(n), Bytes(c), Float(x), Float(y), Float(z), OutFloats(o)],
             ) => to::desk_far_f64(h, p, n, c, *x, *y, *z, o).value(),
+            (Export::BuildLong, [Bytes(l), OutBytes(o)]) => to::desk_build_long(l, o).value(),
+            (Export::BuildLongF64, [Floats(l), OutBytes(h), OutFloats(p), OutFloats(n), OutBytes(c)]) => {
+                to::desk_build_long_f64(l, h, p, n, c).value()
+            }
+            (Export::ArcIntersectionLong, [Bytes(a), Bytes(b), OutBytes(o)]) => {
+                to::desk_arc_intersection_long(a, b, o).value()
+            }
+            (Export::ArcRelateLong, [Bytes(a), Bytes(b), OutBytes(o)]) => to::desk_arc_relate_long(a, b, o).value(),
             _ => panic!("{:?} takes other arguments", $call.export),
         };
         value.map(|value| Answer { value, outs: args.iter().filter(|a| a.is_out()).filter_map(Arg::bytes).collect() })

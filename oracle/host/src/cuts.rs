@@ -3,6 +3,7 @@ use crate::random::{P, Random};
 use crate::shapes;
 use jord::spherical::sloop::probe as sloop;
 use jord::{NVector, Vec3};
+use model::long::Mode;
 use model::loops::{RING, Ring};
 
 /// A ring in bytes: u16 count, the positions, the classes.
@@ -41,7 +42,7 @@ fn line(ring: &Ring) -> String {
 
 fn ring(list: &[P]) -> Option<Ring> {
     let vs: Vec<NVector> = list.iter().map(|p| NVector::new(Vec3::new(p[0], p[1], p[2]))).collect();
-    let b = model::build::build(&vs);
+    let b = model::build::build(Mode::Plain, &vs);
     (b.state == RING).then_some(Ring { state: RING, vertices: b.vertices })
 }
 

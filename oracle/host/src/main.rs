@@ -3,11 +3,14 @@ mod arcs;
 mod bench;
 mod calls;
 mod constants;
+mod costs;
 mod cuts;
 mod exact;
 mod far;
 mod leaves;
 mod linked;
+mod long_arcs;
+mod long_loops;
 mod mutants;
 mod pairs;
 mod port;
@@ -32,6 +35,7 @@ host constants                   the numbers that the port records
 host compare GROUP [N] [SEED]    N inputs of a group (or all) to both sides; exit status 1 on a difference
 host compare turns [N] [SEED]    among them: angles and the directions of steady loops, beside exact angles in whole numbers
 host compare radians [N] [SEED]  among them: N squared chords of each family, bit for bit, and how far they are from the Rust's
+host compare long_arcs [N] [SEED]  and long_build, long_place, long_questions, long_pair among them: the long mode, and where it differs from the plain one
 host compare samples [N] [SEED]  among them: the stored scenes, cut and damaged at every byte; N of these spread evenly, or all where N is 0
 host groups                      the groups whose exports are there
 host record FILE [N]             about N recorded answers an export, for the program `test_replay`
@@ -39,11 +43,12 @@ host rings INPUT OUTPUT          the samples of the program `test_cuts`, and wha
 host expected FILE               what the model says of the scenes in FILE (samples/make.py), for the stored test `scene_tests`
 host serve                       answers the stub's batches by the model (for host mutants)
 host mutants [WORD]              wrong programs in the port's place: each must be noticed
+host long-costs [N] [SEED]       wrong answers of both modes where the right one is known, over N loops of each kind
 host bench                       nanoseconds of both and their ratio
 host repeat WHO WHAT SHAPE N TIMES   one call over and over, for a profile (ours or rust; star or convex)";
 
 /// The groups, with the exports that they need one of.
-const GROUPS: [(&str, &[Export]); 17] = [
+const GROUPS: [(&str, &[Export]); 22] = [
     ("root", &[Export::Root]),
     ("atan", &[Export::Atan2]),
     ("leaves", &[Export::LeafVec, Export::LeafNumber, Export::LeafCase, Export::LeafCap]),
@@ -69,6 +74,12 @@ const GROUPS: [(&str, &[Export]); 17] = [
     ("far", &[Export::Far, Export::FarF64]),
     ("arc_far", &[Export::ArcFar]),
     ("radians", &[Export::Radians]),
+    ("long_arcs", &[Export::ArcIntersectionLong, Export::ArcRelateLong]),
+    ("long_build", &[Export::BuildLong, Export::BuildLongF64]),
+    // A port that does not build long loops passes their mark over.
+    ("long_place", &[Export::BuildLong]),
+    ("long_questions", &[Export::BuildLong]),
+    ("long_pair", &[Export::BuildLong]),
     ("scene", &[Export::Scene]),
     ("samples", &[Export::Scene]),
 ];
@@ -124,6 +135,11 @@ fn feed(group: &str, t: &mut Tally, r: &mut Random, n: usize) {
         "far" => far::loops(t, r, n),
         "arc_far" => far::arcs(t, r, n),
         "radians" => far::radians(t, r, n),
+        "long_arcs" => long_arcs::arcs(t, r, n),
+        "long_build" => long_loops::build(t, r, n),
+        "long_place" => long_loops::place(t, r, n),
+        "long_questions" => long_loops::questions(t, r, n),
+        "long_pair" => long_loops::pair(t, r, n),
         "samples" => samples::samples(t, r, n, &root(), open),
         _ => scenes::scenes(t, r, n, &root()),
     }
@@ -133,7 +149,7 @@ fn record(file: &str, wanted: usize) {
     let mut calls = Vec::new();
     // `test_replay` takes no others.
     let left_out = ["scene", "samples", "leaves", "caps", "turns", "far", "arc_far", "radians"];
-    for (group, _) in GROUPS.iter().filter(|g| !left_out.contains(&g.0)) {
+    for (group, _) in GROUPS.iter().filter(|g| !left_out.contains(&g.0) && !g.0.starts_with("long_")) {
         let mut t = Tally::only_filled();
         feed(group, &mut t, &mut Random::new(1), wanted * 4);
         calls.extend(t.drain());
@@ -214,6 +230,18 @@ fn main() {
         }
         ["mutants"] => mutants::run(&root().join("oracle"), ""),
         ["mutants", word] => mutants::run(&root().join("oracle"), word),
+        ["long-costs"] => {
+            costs::costs(10_000, 1);
+            true
+        }
+        ["long-costs", n] => {
+            costs::costs(number(n) as usize, 1);
+            true
+        }
+        ["long-costs", n, seed] => {
+            costs::costs(number(n) as usize, number(seed));
+            true
+        }
         ["bench"] => {
             bench::bench();
             true

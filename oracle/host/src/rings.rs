@@ -4,13 +4,20 @@ use crate::calls::{Arg, Export, blank, blank_floats, blank_shorts};
 use crate::random::{P, Random, add, along, border_lengths, bytes, list_bytes, list_floats, neg, scale, unit};
 use crate::shapes;
 use crate::tally::Tally;
+use model::long::Mode;
 
 pub const HEADER: usize = 88;
 
 /// A loop as the source builds it, in bytes.
 pub fn built(list: &[P]) -> Vec<u8> {
+    built_in(Mode::Plain, list)
+}
+
+/// A loop of that mode.
+pub fn built_in(mode: Mode, list: &[P]) -> Vec<u8> {
+    let build = if mode == Mode::Plain { model::desk_build } else { model::desk_build_long };
     let mut out = vec![0; HEADER + 49 * list.len()];
-    let n = model::desk_build(&list_bytes(list), &mut out);
+    let n = build(&list_bytes(list), &mut out);
     assert!(n < 65_536, "a made list is refused: {}", n - 65_536);
     out.truncate(HEADER + 49 * n as usize);
     out
@@ -73,7 +80,8 @@ pub fn opened(list: &[P]) -> usize {
     if n < 3 { 0 } else { n }
 }
 
-fn put_build(t: &mut Tally, r: &mut Random, list: &[P]) {
+/// A list to be built by these two, over bytes and in parts.
+pub fn put_build(t: &mut Tally, r: &mut Random, list: &[P], [over_bytes, in_parts]: [Export; 2]) {
     let mut b = list_bytes(list);
     if r.chance(40) {
         b = damage(r, b);
@@ -85,7 +93,7 @@ fn put_build(t: &mut Tally, r: &mut Random, list: &[P]) {
         1 => needs.saturating_sub(1 + r.below(3) * r.below(50)),
         _ => needs,
     };
-    t.put(Export::Build, vec![Arg::Bytes(b), Arg::OutBytes(blank(size))]);
+    t.put(over_bytes, vec![Arg::Bytes(b), Arg::OutBytes(blank(size))]);
     let mut f = list_floats(list);
     if r.chance(40) && !f.is_empty() {
         f.pop();
@@ -99,7 +107,7 @@ fn put_build(t: &mut Tally, r: &mut Random, list: &[P]) {
             _ => {}
         }
     }
-    t.put(Export::BuildF64, build_f64(f, sizes));
+    t.put(in_parts, build_f64(f, sizes));
 }
 
 /// A list, and room of these sizes for the header, the positions, the normals and the classes.
@@ -116,7 +124,7 @@ pub fn build_f64(list: Vec<f64>, sizes: [usize; 4]) -> Vec<Arg> {
 /// Whether the list is in the domain: and a steady loop's direction must be the Rust's own.
 fn judge_turns(t: &mut Tally, list: &[P]) {
     let Ok(ps) = model::build::judge_list(&list_floats(list)) else { return };
-    let b = model::build::build(&ps);
+    let b = model::build::build(Mode::Plain, &ps);
     let Some((ours, rust)) = b.turns else { return };
     if b.weak {
         t.note("outside the domain: weak, held to the definition");
@@ -130,23 +138,24 @@ fn judge_turns(t: &mut Tally, list: &[P]) {
 }
 
 pub fn build(t: &mut Tally, r: &mut Random, n: usize) {
+    let exports = [Export::Build, Export::BuildF64];
     // Every length up to some above the most, and each shape around the borders.
     let shapes = [shapes::convex, shapes::star, shapes::ragged];
     for len in 0..516 {
         let border = len < 12 || len > 508;
         for shape in shapes.iter().skip(if border { 0 } else { len % 3 }).take(if border { 3 } else { 1 }) {
             let list = shape(r, len);
-            put_build(t, r, &list);
+            put_build(t, r, &list, exports);
         }
     }
     for _ in 0..n {
         let len = shapes::length(r);
         let list = shapes::any(r, len);
         judge_turns(t, &list);
-        put_build(t, r, &list);
+        put_build(t, r, &list, exports);
         if r.chance(4) {
             let bad = damaged_list(r, &list);
-            put_build(t, r, &bad);
+            put_build(t, r, &bad, exports);
         }
     }
 }
@@ -408,7 +417,7 @@ pub fn questions(t: &mut Tally, r: &mut Random, n: usize) {
 }
 
 /// A loop with the same corners from another start, the other way, with one corner or class changed, or another one.
-fn like(r: &mut Random, l: &[u8]) -> Vec<u8> {
+pub fn like(r: &mut Random, l: &[u8]) -> Vec<u8> {
     let n = if l.len() >= HEADER && l.len() == HEADER + 49 * count(l) { count(l) } else { 0 };
     let valid = n >= 3 && (0..n).all(|i| vertex(l, i).iter().all(|c| c.is_finite()));
     if !valid || r.chance(8) {

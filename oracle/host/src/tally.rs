@@ -1,6 +1,8 @@
 //! Puts calls to both sides, compares, and counts.
 use crate::calls::{Answer, Arg, Call, Export, by_model};
 use crate::port::Port;
+use model::loops::LONG;
+use model::read::HEADER;
 use std::collections::BTreeMap;
 
 /// Differences that are printed whole.
@@ -10,6 +12,8 @@ const BATCH: usize = 1 << 20;
 
 pub struct Tally {
     port: Option<Port>,
+    /// Whether the port knows the long mode; one from before it passes mark 8 over, as it does every mark that it does not know.
+    knows_long: bool,
     waiting: Vec<Waiting>,
     size: usize,
     pub kinds: BTreeMap<String, u64>,
@@ -50,7 +54,9 @@ fn kind_of(call: &Call, a: &Answer) -> String {
         Export::Scene if a.value >= SIZE_REFUSED => format!("{name} refused {}", a.value - SIZE_REFUSED),
         Export::Scene => name,
         _ if a.value >= REFUSED => format!("{name} refused {}", a.value - REFUSED),
-        Export::Build | Export::BuildF64 => format!("{name} {}", header_kind(&a.outs[0])),
+        Export::Build | Export::BuildF64 | Export::BuildLong | Export::BuildLongF64 => {
+            format!("{name} {}", header_kind(&a.outs[0]))
+        }
         Export::Triangles | Export::TrianglesF64 => {
             let full = matches!(&call.args[0], Arg::Bytes(h) if h[2] == 1);
             format!(
@@ -78,7 +84,27 @@ fn header_kind(h: &[u8]) -> String {
     };
     let turned = if h[3] & 1 != 0 { " reversed" } else { " kept" };
     let weak = if h[3] & 2 != 0 { " weak" } else { " steady" };
-    format!("{state}{turned}{weak}")
+    let long = if h[3] & 8 != 0 { " long" } else { "" };
+    format!("{state}{turned}{weak}{long}")
+}
+
+/// The same call, its loops without mark 8, where the answer goes by it.
+fn plain(call: &Call) -> Call {
+    let loops: &[usize] = match call.export {
+        Export::Place | Export::PlaceF64 | Export::Simple => &[0],
+        Export::Pair => &[0, 1],
+        Export::PairF64 => &[0, 4],
+        _ => &[],
+    };
+    let mut call = call.clone();
+    for i in loops {
+        if let Arg::Bytes(b) = &mut call.args[*i]
+            && b.len() >= HEADER
+        {
+            b[3] &= !LONG;
+        }
+    }
+    call
 }
 
 /// Bits of a NaN are nobody's promise: every NaN counts as one.
@@ -143,8 +169,9 @@ fn cut(mut s: String) -> String {
 }
 
 impl Tally {
-    pub fn new(port: Port) -> Self {
+    pub fn new(mut port: Port) -> Self {
         let mut t = Tally::only_filled();
+        t.knows_long = port.has(Export::BuildLong);
         t.port = Some(port);
         t
     }
@@ -153,6 +180,7 @@ impl Tally {
     pub fn only_filled() -> Self {
         Tally {
             port: None,
+            knows_long: true,
             waiting: Vec::new(),
             size: 0,
             kinds: BTreeMap::new(),
@@ -241,7 +269,7 @@ impl Tally {
             let answers = self.port.as_mut().expect("a port to ask").run(&calls);
             for ((call, (from, expected)), port) in calls.iter().zip(rest).zip(answers) {
                 if let Some(port) = port {
-                    let ours = expected.unwrap_or_else(|| by_model(call));
+                    let ours = expected.unwrap_or_else(|| self.model(call));
                     self.compare(call, from, &ours, &port);
                 }
             }
@@ -254,10 +282,14 @@ impl Tally {
         let answers = self.port.as_mut().expect("a port to ask").run(calls);
         for ((call, from), port) in calls.iter().zip(from).zip(&answers) {
             if let Some(port) = port {
-                self.compare(call, from, &by_model(call), port);
+                self.compare(call, from, &self.model(call), port);
             }
         }
         answers
+    }
+
+    fn model(&self, call: &Call) -> Answer {
+        if self.knows_long { by_model(call) } else { by_model(&plain(call)) }
     }
 
     fn compare(&mut self, call: &Call, from: &str, ours: &Answer, port: &Answer) {

@@ -1,5 +1,6 @@
 //! Arcs: 72 bytes, start, end and normal.
 use crate::leaves::side_code;
+use crate::long::{self, Mode};
 use crate::read::{Judged, answer, floats, position, put, query, refuse_if, vec3};
 use jord::spherical::minor_arc::probe::of_parts;
 use jord::spherical::{MinorArc, MinorArcRelation, Side};
@@ -59,22 +60,32 @@ pub fn desk_arc_contains(arc: &[u8], p: &[u8]) -> u32 {
     })())
 }
 
-pub fn desk_arc_intersection(a: &[u8], b: &[u8], out: &mut [u8]) -> u32 {
+/// Where two arcs meet: of the plain mode the source's own `intersection`.
+fn intersected(mode: Mode, a: &[u8], b: &[u8], out: &mut [u8]) -> u32 {
     answer((|| {
         let a = read_arc(a)?;
         let b = read_arc(b)?;
-        let Some(p) = a.intersection(b) else { return Ok(0) };
+        let met = if mode == Mode::Plain { a.intersection(b) } else { long::intersection(mode, a, b) };
+        let Some(p) = met else { return Ok(0) };
         refuse_if(out.len() < 24, 5)?;
         put(out, 0, p.as_vec3());
         Ok(1)
     })())
 }
 
-pub fn desk_arc_relate(a: &[u8], b: &[u8], out: &mut [u8]) -> u32 {
+pub fn desk_arc_intersection(a: &[u8], b: &[u8], out: &mut [u8]) -> u32 {
+    intersected(Mode::Plain, a, b, out)
+}
+
+pub fn desk_arc_intersection_long(a: &[u8], b: &[u8], out: &mut [u8]) -> u32 {
+    intersected(Mode::Long, a, b, out)
+}
+
+fn related(mode: Mode, a: &[u8], b: &[u8], out: &mut [u8]) -> u32 {
     answer((|| {
         let a = read_arc(a)?;
         let b = read_arc(b)?;
-        let (code, p) = match a.relate(b) {
+        let (code, p) = match long::relation(mode, a, b) {
             MinorArcRelation::Disjoint => return Ok(0),
             MinorArcRelation::Intersecting(p) => (1, p),
             MinorArcRelation::Touching(p) => (2, p),
@@ -87,4 +98,12 @@ pub fn desk_arc_relate(a: &[u8], b: &[u8], out: &mut [u8]) -> u32 {
         put(out, 0, p.as_vec3());
         Ok(code)
     })())
+}
+
+pub fn desk_arc_relate(a: &[u8], b: &[u8], out: &mut [u8]) -> u32 {
+    related(Mode::Plain, a, b, out)
+}
+
+pub fn desk_arc_relate_long(a: &[u8], b: &[u8], out: &mut [u8]) -> u32 {
+    related(Mode::Long, a, b, out)
 }

@@ -1,4 +1,5 @@
 //! Questions put to a loop handed back: the whole loop is judged, then the query, then the source is asked.
+use crate::long;
 use crate::loops::{Handed, read_loop, take_loop};
 use crate::read::{Judged, answer, position, query};
 use jord::NVector;
@@ -12,7 +13,7 @@ pub const MUTE: u32 = 2;
 pub fn placed(handed: &Handed, l: &Loop, p: NVector) -> u32 {
     if handed.is_mute() {
         MUTE
-    } else if l.contains_position(p) {
+    } else if long::contains(handed.mode(), l, p) {
         INSIDE
     } else {
         OUTSIDE
@@ -63,7 +64,11 @@ pub fn desk_convex(of: &[u8]) -> u32 {
 }
 
 pub fn desk_simple(of: &[u8]) -> u32 {
-    asked(of, Loop::is_simple)
+    answer((|| {
+        let handed = read_loop(of)?;
+        let l = handed.judge()?;
+        Ok(u32::from(long::is_simple(handed.mode(), &l)))
+    })())
 }
 
 pub fn desk_vertex(of: &[u8], p: &[u8]) -> u32 {

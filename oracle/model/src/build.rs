@@ -1,6 +1,7 @@
 //! Building, by the source's own steps; the direction and the marks by the port's own arctangent.
 use crate::leaves::{sine, turning};
-use crate::loops::{EMPTY, FULL, INSIDES, RING};
+use crate::long::Mode;
+use crate::loops::{EMPTY, FULL, INSIDES, LONG, RING};
 use crate::read::{HEADER, Judged, MOST, answer, floats, positions, put, refuse_if};
 use jord::spherical::sloop::probe as sloop;
 use jord::spherical::{Cap, Loop, MinorArc, cap, chord_length};
@@ -11,6 +12,8 @@ pub const STEADY: f64 = 1.0 / (1u64 << 30) as f64;
 
 /// A loop as built.
 pub struct Built {
+    /// No other part hangs on it.
+    pub mode: Mode,
     pub state: u8,
     pub reversed: bool,
     pub weak: bool,
@@ -41,16 +44,16 @@ pub fn turn_pairs(list: &[NVector]) -> Vec<(f64, f64)> {
     (0..n).map(|i| pair(edges[i], edges[(i + 1) % n])).collect()
 }
 
-fn of_state(state: u8, turns: Option<(f64, f64)>, weak: bool) -> Built {
+fn of_state(mode: Mode, state: u8, turns: Option<(f64, f64)>, weak: bool) -> Built {
     let cap = if state == FULL { Cap::FULL } else { Cap::EMPTY };
     let (vertices, edges) = (Vec::new(), Vec::new());
-    Built { state, reversed: false, weak, cap, insides: None, vertices, edges, turns }
+    Built { mode, state, reversed: false, weak, cap, insides: None, vertices, edges, turns }
 }
 
-pub fn build(list: &[NVector]) -> Built {
+pub fn build(mode: Mode, list: &[NVector]) -> Built {
     let opened = sloop::opened(list);
     if opened.len() < 3 {
-        return of_state(EMPTY, None, false);
+        return of_state(mode, EMPTY, None, false);
     }
     let (edges, rust_clockwise) = sloop::to_edges(opened);
     let ours = turn_sum(&edges, |a, b| turning(a.normal(), b.normal(), a.end().as_vec3()));
@@ -63,11 +66,11 @@ pub fn build(list: &[NVector]) -> Built {
     let edges = if clockwise { edges } else { sloop::reverse_edges(&edges) };
     let vertices = sloop::classed(&edges);
     let built = if vertices.iter().all(|v| v.1 == 2) {
-        of_state(FULL, turns, weak)
+        of_state(mode, FULL, turns, weak)
     } else {
         let insides = if vertices.len() > 3 { sloop::find_insides(&vertices) } else { None };
         let cap = sloop::calc_bounding_cap(opened);
-        Built { state: RING, reversed: !clockwise, weak, cap, insides, vertices, edges, turns }
+        Built { mode, state: RING, reversed: !clockwise, weak, cap, insides, vertices, edges, turns }
     };
     if cfg!(feature = "held") && clockwise == rust_clockwise {
         same_as_source(&built, &Loop::new(list));
@@ -105,6 +108,7 @@ impl Built {
         h[..2].copy_from_slice(&(self.count() as u16).to_le_bytes());
         h[2] = self.state;
         h[3] = u8::from(self.reversed) | u8::from(self.weak) << 1 | if self.insides.is_some() { INSIDES } else { 0 };
+        h[3] |= if self.mode == Mode::Long { LONG } else { 0 };
         put(&mut h, 8, self.cap.centre().as_vec3());
         let radius = chord_length::probe::length2(cap::probe::radius(self.cap));
         h[32..40].copy_from_slice(&radius.to_le_bytes());
@@ -135,12 +139,12 @@ fn needed(list: &[NVector]) -> usize {
     }
 }
 
-pub fn desk_build(list: &[u8], out: &mut [u8]) -> u32 {
+fn build_bytes(mode: Mode, list: &[u8], out: &mut [u8]) -> u32 {
     answer((|| {
         refuse_if(list.len() % 24 != 0, 1)?;
         let list = judge_list(&floats(list))?;
         refuse_if(out.len() < HEADER + 49 * needed(&list), 5)?;
-        let b = build(&list);
+        let b = build(mode, &list);
         let n = b.count();
         out[..HEADER].copy_from_slice(&b.header());
         for i in 0..n {
@@ -152,11 +156,20 @@ pub fn desk_build(list: &[u8], out: &mut [u8]) -> u32 {
     })())
 }
 
+pub fn desk_build(list: &[u8], out: &mut [u8]) -> u32 {
+    build_bytes(Mode::Plain, list, out)
+}
+
+pub fn desk_build_long(list: &[u8], out: &mut [u8]) -> u32 {
+    build_bytes(Mode::Long, list, out)
+}
+
 fn put_floats(out: &mut [f64], i: usize, v: Vec3) {
     out[3 * i..3 * i + 3].copy_from_slice(&[v.x(), v.y(), v.z()]);
 }
 
-pub fn desk_build_f64(
+fn build_floats(
+    mode: Mode,
     list: &[f64],
     header: &mut [u8],
     positions: &mut [f64],
@@ -168,7 +181,7 @@ pub fn desk_build_f64(
         let n = needed(&list);
         let short = header.len() < HEADER || positions.len() < 3 * n || normals.len() < 3 * n || classes.len() < n;
         refuse_if(short, 5)?;
-        let b = build(&list);
+        let b = build(mode, &list);
         header[..HEADER].copy_from_slice(&b.header());
         for i in 0..b.count() {
             put_floats(positions, i, b.vertices[i].0.as_vec3());
@@ -177,4 +190,24 @@ pub fn desk_build_f64(
         }
         Ok(b.count() as u32)
     })())
+}
+
+pub fn desk_build_f64(
+    list: &[f64],
+    header: &mut [u8],
+    positions: &mut [f64],
+    normals: &mut [f64],
+    classes: &mut [u8],
+) -> u32 {
+    build_floats(Mode::Plain, list, header, positions, normals, classes)
+}
+
+pub fn desk_build_long_f64(
+    list: &[f64],
+    header: &mut [u8],
+    positions: &mut [f64],
+    normals: &mut [f64],
+    classes: &mut [u8],
+) -> u32 {
+    build_floats(Mode::Long, list, header, positions, normals, classes)
 }

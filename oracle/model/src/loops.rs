@@ -1,4 +1,5 @@
 //! A loop handed back: header, positions, normals and classes, judged and made into the source's `Loop`.
+use crate::long::{Mode, mode_of};
 use crate::read::{HEADER, Judged, MOST, float, floats, positions, refuse_if, vec3};
 use jord::NVector;
 use jord::spherical::minor_arc::probe::of_parts as arc_of_parts;
@@ -11,6 +12,8 @@ pub const RING: u8 = 2;
 
 /// Mark: the insides are there.
 pub const INSIDES: u8 = 4;
+/// Mark: the loop is of the long mode.
+pub const LONG: u8 = 8;
 
 /// The 88 bytes, read.
 #[derive(Clone, Debug)]
@@ -98,6 +101,10 @@ impl Handed {
 
     pub fn has_insides(&self) -> bool {
         self.header.marks & INSIDES != 0
+    }
+
+    pub fn mode(&self) -> Mode {
+        mode_of(self.header.marks)
     }
 
     /// A ring above three without insides.

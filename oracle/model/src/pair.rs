@@ -1,9 +1,10 @@
 //! Two loops related. The source decides; where it would need a midpoint that of SCOPE 3 takes its
-//! place, and the pair is outside the domain.
+//! place, and the pair is outside the domain. In long mode its steps decide, without caps and with arcs that meet in either point.
 use crate::ask::judge_two;
 use crate::leaves::midpoint;
+use crate::long::{self, Mode, mode_of};
 use crate::loops::take_loop;
-use crate::read::{Judged, answer};
+use crate::read::{Judged, answer, refuse_if};
 use jord::NVector;
 use jord::spherical::sloop::probe as sloop;
 use jord::spherical::{Loop, LoopRelation, MinorArcRelation};
@@ -52,11 +53,11 @@ enum Edges {
     Apart,
 }
 
-fn edges(a: &Loop, b: &Loop) -> Edges {
+fn edges(mode: Mode, a: &Loop, b: &Loop) -> Edges {
     let mut met = false;
     for e in a.iter_edges() {
         for f in b.iter_edges() {
-            match e.relate(*f) {
+            match long::relation(mode, *e, *f) {
                 MinorArcRelation::Intersecting(_) => return Edges::Crossing,
                 MinorArcRelation::Disjoint => {}
                 _ => met = true,
@@ -67,20 +68,20 @@ fn edges(a: &Loop, b: &Loop) -> Edges {
 }
 
 /// The source's steps up to its search for a point: the answer, or whether the edges met.
-fn before_points(a: &Loop, b: &Loop) -> Result<u32, bool> {
+fn before_points(mode: Mode, a: &Loop, b: &Loop) -> Result<u32, bool> {
     if a.is_full() {
         return Ok(code(if b.is_full() { LoopRelation::Equal } else { LoopRelation::Containing }));
     }
     if a.is_empty() && b.is_empty() {
         return Ok(code(LoopRelation::Equal));
     }
-    if !a.bounding_cap().intersects(b.bounding_cap()) {
+    if mode == Mode::Plain && !a.bounding_cap().intersects(b.bounding_cap()) {
         return Ok(code(LoopRelation::Disjoint));
     }
     if a.is_equivalent(b) {
         return Ok(code(LoopRelation::Equal));
     }
-    match edges(a, b) {
+    match edges(mode, a, b) {
         Edges::Crossing => Ok(code(LoopRelation::Intersecting)),
         Edges::Meeting => Err(true),
         Edges::Apart => Err(false),
@@ -88,13 +89,13 @@ fn before_points(a: &Loop, b: &Loop) -> Result<u32, bool> {
 }
 
 /// The whole relation with the stand-in, by the source's steps.
-fn by_steps(a: &Loop, b: &Loop) -> Judged<u32> {
-    let met = match before_points(a, b) {
+fn by_steps(mode: Mode, a: &Loop, b: &Loop) -> Judged<u32> {
+    let met = match before_points(mode, a, b) {
         Ok(answer) => return Ok(answer),
         Err(met) => met,
     };
-    let a_in_b = unambiguous(a, b).is_some_and(|p| b.contains_position(p));
-    let b_in_a = unambiguous(b, a).is_some_and(|p| a.contains_position(p));
+    let a_in_b = unambiguous(a, b).is_some_and(|p| long::contains(mode, b, p));
+    let b_in_a = unambiguous(b, a).is_some_and(|p| long::contains(mode, a, p));
     match (a_in_b, b_in_a) {
         (true, true) => Err(7),
         (true, false) => Ok(code(LoopRelation::Within)),
@@ -105,8 +106,8 @@ fn by_steps(a: &Loop, b: &Loop) -> Judged<u32> {
 
 pub fn relate(a: &Loop, b: &Loop) -> Related {
     let searched = needs_midpoint(a, b) || needs_midpoint(b, a);
-    if searched && before_points(a, b).is_err() {
-        return Related { answer: by_steps(a, b), outside: true };
+    if searched && before_points(Mode::Plain, a, b).is_err() {
+        return Related { answer: by_steps(Mode::Plain, a, b), outside: true };
     }
     let answer = by_source(a, b);
     Related { answer, outside: false }
@@ -114,11 +115,24 @@ pub fn relate(a: &Loop, b: &Loop) -> Related {
 
 /// The steps above beside the source, where both may speak; a test of this file.
 pub fn steps_agree(a: &Loop, b: &Loop) -> bool {
-    relate(a, b).outside || by_steps(a, b) == by_source(a, b)
+    relate(a, b).outside || by_steps(Mode::Plain, a, b) == by_source(a, b)
 }
 
+/// SCOPE 56: 11 where the modes differ, whatever the loops are, and ahead of 7.
+fn in_one_mode(first: Mode, second: Mode, a: &Loop, b: &Loop) -> Judged<u32> {
+    refuse_if(first != second, 11)?;
+    if first == Mode::Plain {
+        return relate(a, b).answer;
+    }
+    if cfg!(feature = "held") {
+        assert!(steps_agree(a, b), "the plain steps are the source's: {a:?} {b:?}");
+    }
+    by_steps(first, a, b)
+}
+
+/// Both are judged, so that each has a mark byte.
 pub fn desk_pair(a: &[u8], b: &[u8]) -> u32 {
-    answer(judge_two(a, b).and_then(|(a, b)| relate(&a, &b).answer))
+    answer(judge_two(a, b).and_then(|(x, y)| in_one_mode(mode_of(a[3]), mode_of(b[3]), &x, &y)))
 }
 
 #[allow(clippy::too_many_arguments)]
@@ -134,7 +148,7 @@ pub fn desk_pair_f64(
 ) -> u32 {
     answer((|| {
         let a = take_loop(header, positions, Some(normals), classes)?.judge()?;
-        let b = take_loop(other_header, other_positions, Some(other_normals), other_classes)?;
-        relate(&a, &b.judge()?).answer
+        let b = take_loop(other_header, other_positions, Some(other_normals), other_classes)?.judge()?;
+        in_one_mode(mode_of(header[3]), mode_of(other_header[3]), &a, &b)
     })())
 }

@@ -3,6 +3,7 @@ use crate::ask::{INSIDE, MUTE, placed};
 use crate::build::{Built, build};
 use crate::cut::triangles_checked;
 use crate::far::far_of;
+use crate::long::Mode;
 use crate::loops::{EMPTY, FULL, Handed, Ring, read_loop};
 use crate::pair::relate;
 use crate::read::{HEADER, MOST, floats, position, put};
@@ -179,7 +180,7 @@ impl Scene {
     fn area(&mut self, r: &Record) -> Taken<()> {
         refuse_at(r.count() > MOST, 2, r.body_at())?;
         let number = r.first().0;
-        let b = build(&r.positions()?);
+        let b = build(Mode::Plain, &r.positions()?);
         self.given += r.count();
         self.outside |= b.weak;
         writeln!(self.text, "{}", area_line(number, &b)).unwrap();

@@ -11,12 +11,20 @@ fn bytes(list: &[P]) -> Vec<u8> {
     list.iter().flatten().flat_map(|c| c.to_le_bytes()).collect()
 }
 
-fn built(list: &[P]) -> Vec<u8> {
+fn built_by(build: fn(&[u8], &mut [u8]) -> u32, list: &[P]) -> Vec<u8> {
     let mut out = vec![0; 88 + 49 * list.len()];
-    let n = desk_build(&bytes(list), &mut out);
+    let n = build(&bytes(list), &mut out);
     assert!(n < REFUSED, "refused {}", n - REFUSED);
     out.truncate(88 + 49 * n as usize);
     out
+}
+
+fn built(list: &[P]) -> Vec<u8> {
+    built_by(desk_build, list)
+}
+
+fn built_long(list: &[P]) -> Vec<u8> {
+    built_by(desk_build_long, list)
 }
 
 fn side(a: P, b: P, c: P) -> u32 {
@@ -86,16 +94,81 @@ fn refusal_seven() {
     assert_eq!(desk_pair(&a, &b), REFUSED + 7);
 }
 
-/// Of long arcs the source says Disjoint one way round and Intersecting the other.
+fn arc(s: P, e: P) -> Vec<u8> {
+    let mut out = vec![0; 72];
+    assert_eq!(desk_arc(&bytes(&[s]), &bytes(&[e]), &mut out), 0);
+    out
+}
+
+/// Of long arcs the source says Disjoint one way round and Intersecting the other; the long mode says Intersecting, at one point.
 #[test]
 fn long_arcs() {
-    let arc = |s: P, e: P| {
-        let mut out = vec![0; 72];
-        assert_eq!(desk_arc(&bytes(&[s]), &bytes(&[e]), &mut out), 0);
-        out
-    };
     let a = arc(X, [-0.6, 0.8, 0.0]);
     let b = arc([-0.224, 0.768, 0.6], [-0.224, 0.768, -0.6]);
     let mut out = vec![0; 72];
     assert_eq!((desk_arc_relate(&a, &b, &mut out), desk_arc_relate(&b, &a, &mut out)), (0, 1));
+    let source = out[..24].to_vec();
+    for (one, other) in [(&a, &b), (&b, &a)] {
+        let mut out = vec![0; 24];
+        assert_eq!((desk_arc_relate_long(one, other, &mut out), &out), (1, &source));
+        out = vec![0; 24];
+        assert_eq!((desk_arc_intersection_long(one, other, &mut out), &out), (1, &source));
+    }
+}
+
+/// Half circles by normals of their own meet at both ends; the one on the side of the first's start is told, whichever that is.
+#[test]
+fn of_two_touches_the_starts() {
+    let minus_x = [-1.0, 0.0, 0.0];
+    for (s, e) in [(X, minus_x), (minus_x, X)] {
+        let (a, b) = (bytes(&[s, e, Z]), bytes(&[minus_x, X, Y]));
+        let mut out = vec![0; 24];
+        assert_eq!((desk_arc_relate_long(&a, &b, &mut out), &out), (2, &bytes(&[s])));
+    }
+}
+
+/// A product that runs over is right of everything, and so is that of the opposite point: the arcs are apart in both modes.
+#[test]
+fn products_that_run_over() {
+    let huge = [f64::MAX, f64::MAX, -f64::MAX];
+    let (a, b) = (bytes(&[X, Y, huge]), bytes(&[Y, Z, [0.6, -0.8, 0.0]]));
+    for (one, other) in [(&a, &b), (&b, &a)] {
+        let mut out = vec![7; 72];
+        assert_eq!((desk_arc_relate(one, other, &mut out), desk_arc_relate_long(one, other, &mut out)), (0, 0));
+        assert_eq!(out, [7; 72]);
+    }
+}
+
+/// One side is longer than a quarter circle: behind it the plain mode says inside.
+#[test]
+fn long_places() {
+    let list = [X, Z, [-0.6, 0.8, 0.0], [0.0, 0.6, -0.8]];
+    let (plain, long) = (built(&list), built_long(&list));
+    assert_eq!((plain[3] & 8, long[3] & 8), (0, 8));
+    let place = |l: &[u8], p: P| desk_place(l, &bytes(&[p]));
+    assert_eq!((place(&plain, Y), place(&long, Y)), (1, 1));
+    assert_eq!((place(&plain, [-0.8, 0.6, 0.0]), place(&long, [-0.8, 0.6, 0.0])), (1, 0));
+    let crossed = [X, Z, [0.0, -1.0, 0.0], [-0.8, 0.0, 0.6]];
+    assert_eq!((desk_simple(&built(&crossed)), desk_simple(&built_long(&crossed))), (1, 0));
+    let full = [X, [0.6, 0.8, 0.0], Y];
+    assert_eq!((built_long(&[])[3], built_long(&full)[3]), (8, built(&full)[3] | 8));
+}
+
+/// 11 after all that either loop is refused for, ahead of 7, and of a pair alone.
+#[test]
+fn refusal_eleven() {
+    let (a, b) = ([[-0.8, 0.0, -0.6], X, [0.64, -0.48, 0.6]], [[0.0, -1.0, 0.0], Z, X]);
+    assert_eq!(desk_pair(&built_long(&a), &built_long(&b)), 2);
+    let full = [X, [0.6, 0.8, 0.0], Y];
+    for (x, y) in [(&a[..], &b[..]), (&a, &full), (&full, &a), (&full, &full), (&[], &full), (&[], &[])] {
+        assert_eq!(desk_pair(&built(x), &built_long(y)), REFUSED + 11);
+        assert_eq!(desk_pair(&built_long(x), &built(y)), REFUSED + 11);
+        assert_eq!(desk_equivalent(&built(x), &built_long(y)), desk_equivalent(&built(x), &built(y)));
+    }
+    let mut off = built_long(&b);
+    off[88..96].copy_from_slice(&2.0_f64.to_le_bytes());
+    assert_eq!((desk_pair(&built(&a), &off), desk_pair(&off, &built(&a))), (REFUSED + 4, REFUSED + 4));
+    let mut marked = built(&b);
+    marked[3] |= 0xF0;
+    assert_eq!(desk_pair(&built(&a), &marked), REFUSED + 7);
 }

@@ -1,7 +1,7 @@
--- A candidate that misses the arc is no meeting in the mode; otherwise the edge is read and the meeting is its own.
+-- A candidate that misses the arc or the edge is no meeting in the mode; otherwise the meeting is that of the two.
 use borrow.Author.Needs.{needs}
 use mathlib.Core.Path.{sym, _∙_}
-use Rattle.minor_arc.proofs.Missing.{missed-none}
+use Rattle.minor_arc.proofs.Missing.{missed-none, missed-other-none}
 use Rattle.ring_edges.specs.Edges.{edgeAt}
 use Rattle.ring_edges.specs.Blocks.{candidateAt}
 use Rattle.ring_place.proofs.point_at.Statement.{statement}
@@ -13,14 +13,23 @@ returns c =
     let asked = c .before in
     missed-none _ _ _ (asked .before .before .before .pre .4) (sym (asked .misses .ensures) ∙ c .if1 .taken)
 
+returns-2 : tie.Need-returns-2
+unfolding edgeAt candidateAt
+returns-2 c =
+    let asked = c .before in
+    let drawn = asked .before in
+    let start = drawn .before .before .before .before .before in
+    missed-other-none _ _ _ (start .pre .4) (simp (drawn .edge .ensures) at (sym (asked .misses-other .ensures)) ∙ c .if2 .taken)
+
 intersection-at-requires : tie.Need-intersection-at-requires
 unfolding edgeAt candidateAt
 intersection-at-requires c κs =
-    let asked = c .before .before in
-    simp (c .edge .ensures) (asked .before .before .before .pre .4)
+    let drawn = c .before .before in
+    let start = drawn .before .before .before .before .before in
+    simp (drawn .edge .ensures) (start .pre .4)
 
-returns-2 : tie.Need-returns-2
-returns-2 c = simp (c .intersection-at .ensures, c .before .edge .ensures)
+returns-3 : tie.Need-returns-3
+returns-3 c = simp (c .intersection-at .ensures, c .before .before .before .edge .ensures)
 
 pub point-at-spec : {M : Type 1} → statement M
 point-at-spec =
@@ -28,5 +37,7 @@ point-at-spec =
     (tie.spec (λ c κs. tt)
     returns
     (λ c κs. search needs)
+    (λ c κs. tt)
+    returns-2
     intersection-at-requires
-    returns-2)
+    returns-3)

@@ -39,12 +39,28 @@ pub mod cap {
 pub mod minor_arc {
     include!("minor_arc.rs");
 
-    /// Opens `MinorArc`'s private fields, so that an arc may be handed back with another normal.
+    /// Opens `MinorArc`'s private fields, so that an arc may be handed back with another normal, and where the source says a point lies.
     pub mod probe {
-        use super::{MinorArc, NVector, Vec3};
+        use super::{MinorArc, NVector, OnMinorArcLocation, Vec3};
+
+        /// `OnMinorArcLocation`, which is private.
+        #[derive(Clone, Copy, Debug, PartialEq, Eq)]
+        pub enum Location {
+            Endpoint,
+            Interior,
+            Exterior,
+        }
 
         pub fn of_parts(start: NVector, end: NVector, normal: Vec3) -> MinorArc {
             MinorArc { start, end, normal }
+        }
+        /// Where a point of the arc's great circle lies, by `triage_on_minor_arc`.
+        pub fn location(arc: MinorArc, v: Vec3) -> Location {
+            match arc.triage_on_minor_arc(v) {
+                OnMinorArcLocation::Endpoint => Location::Endpoint,
+                OnMinorArcLocation::Interior => Location::Interior,
+                OnMinorArcLocation::Exterior => Location::Exterior,
+            }
         }
     }
 }
@@ -54,7 +70,7 @@ pub mod sloop {
 
     /// Opens `Loop`'s private fields and the private functions of its file.
     pub mod probe {
-        use super::{Cap, Classification, Loop, MinorArc, NVector, Vertex};
+        use super::{Cap, Classification, Loop, MinorArc, NVector, Vec3, Vertex};
 
         /// Class codes of the desk: 0 convex, 1 reflex, 2 both.
         fn code(c: Classification) -> u8 {
@@ -141,6 +157,9 @@ pub mod sloop {
         }
         pub fn icosahedron() -> Vec<(NVector, NVector, NVector)> {
             super::icosahedron()
+        }
+        pub fn vec3_eq(a: Vec3, b: Vec3) -> bool {
+            super::vec3_eq(a, b)
         }
     }
 }

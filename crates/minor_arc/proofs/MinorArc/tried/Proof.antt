@@ -1,22 +1,76 @@
--- Plain: one point's meeting. Long: the better of both points'.
+-- Plain: one point's meeting. Long: the better of both points', which is the first's where that is interior to the first arc.
 use borrow.Author.Needs.{needs}
+use mathlib.Core.Path.{_≡_, refl, sym, _∙_}
+use mathlib.Core.Bool.{true, false≢true}
+use Rattle.vec3.specs.declared.Vec3.{Vec3}
+use Rattle.signs.specs.Mirrors.{Stored}
+use Rattle.minor_arc.specs.declared.MinorArc.{MinorArc}
+use Rattle.minor_arc.specs.declared.Location.{Location}
+use Rattle.minor_arc.specs.declared.Location.the-variants.{Endpoint, Interior, Exterior}
+use Rattle.minor_arc.specs.declared.Meeting.{Meeting}
+use Rattle.minor_arc.specs.declared.Meeting.the-variants as M
+use Rattle.minor_arc.specs.declared.Mode.the-variants.{Long}
+use Rattle.minor_arc.specs.Arcs.{interior, locationOf, meetingIn, better, tried}
+use Rattle.minor_arc.specs.Opposites.{to-first}
+use Rattle.minor_arc.proofs.Opposites.{opposite-laws}
 use Rattle.minor_arc.proofs.MinorArc.tried.Statement.{statement}
 use Rattle.minor_arc.proofs.MinorArc.tried.Tie as tie
 
+-- nothing outranks nothing
+better-apart : (m : Meeting) → better m M.Apart ≡ m
+unfolding better
+better-apart M.Apart = refl
+better-apart M.Collinear = refl
+better-apart (M.Touching p) = refl
+better-apart (M.Crossing p) = refl
+
+is-interior : (l : Location) → interior l ≡ true → l ≡ Interior
+is-interior Interior h = refl
+is-interior Endpoint h = absurd (false≢true h)
+is-interior Exterior h = absurd (false≢true h)
+
+first-alone : (a b : MinorArc) (p : Vec3) → Stored p → interior (locationOf a p) ≡ true → meetingIn a b p ≡ tried Long a b p
+first-alone a b p s h =
+    rw (opposite-laws .opposites a b p s .interior (to-first (is-interior (locationOf a p) h))) (sym (better-apart (meetingIn a b p)))
+
 returns : tie.Need-returns
-returns c = simp (c .enum-told .given .1, c .before .before .meeting-in .ensures)
+unfolding meetingIn
+returns c =
+    let met = c .before .before in
+    simp (c .enum-told .given .1, met .met .ensures, met .before .location .ensures)
 
 returns-2 : tie.Need-returns-2
+unfolding meetingIn
 returns-2 c =
+    let asked = c .before in
+    let long = asked .before in
+    let met = long .before .before in
+    let place = met .before .location .ensures in
+    let start = met .before .before in
+    simp (long .enum-told2 .given .1, met .met .ensures, place)
+    (first-alone (start .args .self) (start .args .o) (start .args .p) (start .pre) (simp (← place) (sym (asked .is-interior .ensures) ∙ c .if1 .taken)))
+
+returns-3 : tie.Need-returns-3
+unfolding meetingIn
+returns-3 c =
     let second = c .before in
     let turned = second .before in
-    let long = turned .before in
-    simp (long .enum-told2 .given .1, c .better .ensures, second .meeting-in2 .ensures, turned .neg .ensures, long .before .before .meeting-in .ensures)
+    let long = turned .before .before .before in
+    let met = long .before .before in
+    simp (
+      long .enum-told2 .given .1,
+      c .better .ensures,
+      second .meeting-in .ensures,
+      turned .neg .ensures,
+      met .met .ensures,
+      met .before .location .ensures,
+    )
 
 pub tried-spec : {M : Type 1} → statement M
 tried-spec =
     tie.close
     (tie.spec
-    (λ c κs. tt) (λ c. search needs) (λ c. search needs) (λ c κs. tt) (λ c κs. tt) (λ c κs. tt)
+    (λ c κs. tt) (λ c κs. tt) (λ c. search needs) (λ c. search needs) (λ c κs. tt) (λ c κs. tt) (λ c κs. tt) (λ c κs. tt)
     returns
-    returns-2)
+    returns-2
+    returns-3)

@@ -2,6 +2,7 @@
 use Prim.Native.Nat.{ℕ}
 use mathlib.Core.Path.{_≡_, refl, sym, ap, _∙_}
 use mathlib.Core.List.{List}
+use lib.Ieee.{Float}
 use Rattle.arcs.proofs.Unique as Arcs
 use Rattle.loop_build.proofs.Unique.{told-apart, build-unique}
 use Rattle.loop_ask.proofs.Unique as Ask
@@ -79,11 +80,20 @@ at-8 : {A : Type 0} {t : Outcome A} (x y : ℕ) (v w : Unit {0} × (Unit {0} × 
     → outcome x (v .1 .1 .1 .1 .1 .1 .1 .0) ≡ t → outcome y (w .1 .1 .1 .1 .1 .1 .1 .0) ≡ t → (x ≡ y) × (v ≡ w)
 at-8 x y v w p q = let e = at-4 x y (v .1 .1 .1 .1) (w .1 .1 .1 .1) p q in (e .0, ap (λ u. (tt, (tt, (tt, (tt, u))))) (e .1))
 
+-- a number with the header and the three slices of a loop at exit, the list ahead of them
+four-slices : {t : FloatsOutcome} (x y : ℕ) (v w : Unit {0} × (List ℕ × (List Float × (List Float × (List ℕ × Unit {0})))))
+    → record { number = x; header = v .1 .0; positions = v .1 .1 .0; normals = v .1 .1 .1 .0; classes = v .1 .1 .1 .1 .0 } ≡ t
+    → record { number = y; header = w .1 .0; positions = w .1 .1 .0; normals = w .1 .1 .1 .0; classes = w .1 .1 .1 .1 .0 } ≡ t → (x ≡ y) × (v ≡ w)
+four-slices x y v w p q =
+    let e = p ∙ sym q in
+    (ap (λ (o : FloatsOutcome). o .number) e, ap (λ (o : FloatsOutcome). (tt, (o .header, (o .positions, (o .normals, (o .classes, tt)))))) e)
+
 of-exports : OfExports
 of-exports = record {
   desk_root = λ κs a x y v w p q. (p .same ∙ sym (q .same), refl);
   desk_atan2 = λ κs a x y v w p q. (p ∙ sym q, refl);
   desk_build = λ κs a. at-2;
+  desk_build_long = λ κs a. at-2;
   desk_place = λ κs a x y v w p q. (p ∙ sym q, refl);
   desk_vertex = λ κs a x y v w p q. (p ∙ sym q, refl);
   desk_on_edge = λ κs a x y v w p q. (p ∙ sym q, refl);
@@ -97,13 +107,16 @@ of-exports = record {
   desk_pair = λ κs a x y v w p q. (p ∙ sym q, refl);
   desk_equivalent = λ κs a x y v w p q. (p ∙ sym q, refl);
   desk_pair_f64 = λ κs a x y v w p q. (p ∙ sym q, refl);
-  desk_build_f64 = λ κs a x y v w p q. let e = p ∙ sym q in (ap (λ (o : FloatsOutcome). o .number) e, ap (λ (o : FloatsOutcome). (tt, (o .header, (o .positions, (o .normals, (o .classes, tt)))))) e);
+  desk_build_f64 = λ κs a. four-slices;
+  desk_build_long_f64 = λ κs a. four-slices;
   desk_arc = λ κs a. at-3;
   desk_arc_opposite = λ κs a. at-2;
   desk_arc_side = λ κs a x y v w p q. (p ∙ sym q, refl);
   desk_arc_contains = λ κs a x y v w p q. (p ∙ sym q, refl);
   desk_arc_intersection = λ κs a. at-3;
   desk_arc_relate = λ κs a. at-3;
+  desk_arc_intersection_long = λ κs a. at-3;
+  desk_arc_relate_long = λ κs a. at-3;
   desk_scene = λ κs a. at-2;
   desk_radians = λ κs a x y v w p q. (p ∙ sym q, refl);
   desk_far = λ κs a. at-3;

@@ -31,6 +31,7 @@ use Rattle.loop_relate.proofs.relate as LoopRelate
 use Rattle.exports.proofs.floats.desk_root as DeskRoot
 use Rattle.exports.proofs.floats.desk_atan2 as DeskAtan2
 use Rattle.exports.proofs.loops.desk_build as DeskBuild
+use Rattle.exports.proofs.loops.desk_build_long as DeskBuildLong
 use Rattle.exports.proofs.loops.desk_place as DeskPlace
 use Rattle.exports.proofs.loops.desk_vertex as DeskVertex
 use Rattle.exports.proofs.loops.desk_on_edge as DeskOnEdge
@@ -45,12 +46,15 @@ use Rattle.exports.proofs.loops.desk_pair as DeskPair
 use Rattle.exports.proofs.loops.desk_equivalent as DeskEquivalent
 use Rattle.exports.proofs.loops.desk_pair_f64 as DeskPairF64
 use Rattle.exports.proofs.loops.desk_build_f64 as DeskBuildF64
+use Rattle.exports.proofs.loops.desk_build_long_f64 as DeskBuildLongF64
 use Rattle.exports.proofs.minor_arcs.desk_arc as DeskArc
 use Rattle.exports.proofs.minor_arcs.desk_arc_opposite as DeskArcOpposite
 use Rattle.exports.proofs.minor_arcs.desk_arc_side as DeskArcSide
 use Rattle.exports.proofs.minor_arcs.desk_arc_contains as DeskArcContains
 use Rattle.exports.proofs.minor_arcs.desk_arc_intersection as DeskArcIntersection
 use Rattle.exports.proofs.minor_arcs.desk_arc_relate as DeskArcRelate
+use Rattle.exports.proofs.minor_arcs.desk_arc_intersection_long as DeskArcIntersectionLong
+use Rattle.exports.proofs.minor_arcs.desk_arc_relate_long as DeskArcRelateLong
 use Rattle.exports_scene.proofs.desk_scene as DeskScene
 use Rattle.exports_far.proofs.desk_radians as DeskRadians
 use Rattle.exports_far.proofs.desk_far as DeskFar
@@ -110,6 +114,7 @@ pub record OfExports : Type 0 where
   pub desk_root : One DeskRoot.Kinds.ps DeskRoot.Kinds.r DeskRoot.Reads.Post
   pub desk_atan2 : One DeskAtan2.Kinds.ps DeskAtan2.Kinds.r DeskAtan2.Reads.Post
   pub desk_build : One DeskBuild.Kinds.ps DeskBuild.Kinds.r DeskBuild.Reads.Post
+  pub desk_build_long : One DeskBuildLong.Kinds.ps DeskBuildLong.Kinds.r DeskBuildLong.Reads.Post
   pub desk_place : One DeskPlace.Kinds.ps DeskPlace.Kinds.r DeskPlace.Reads.Post
   pub desk_vertex : One DeskVertex.Kinds.ps DeskVertex.Kinds.r DeskVertex.Reads.Post
   pub desk_on_edge : One DeskOnEdge.Kinds.ps DeskOnEdge.Kinds.r DeskOnEdge.Reads.Post
@@ -124,12 +129,15 @@ pub record OfExports : Type 0 where
   pub desk_equivalent : One DeskEquivalent.Kinds.ps DeskEquivalent.Kinds.r DeskEquivalent.Reads.Post
   pub desk_pair_f64 : One DeskPairF64.Kinds.ps DeskPairF64.Kinds.r DeskPairF64.Reads.Post
   pub desk_build_f64 : One DeskBuildF64.Kinds.ps DeskBuildF64.Kinds.r DeskBuildF64.Reads.Post
+  pub desk_build_long_f64 : One DeskBuildLongF64.Kinds.ps DeskBuildLongF64.Kinds.r DeskBuildLongF64.Reads.Post
   pub desk_arc : One DeskArc.Kinds.ps DeskArc.Kinds.r DeskArc.Reads.Post
   pub desk_arc_opposite : One DeskArcOpposite.Kinds.ps DeskArcOpposite.Kinds.r DeskArcOpposite.Reads.Post
   pub desk_arc_side : One DeskArcSide.Kinds.ps DeskArcSide.Kinds.r DeskArcSide.Reads.Post
   pub desk_arc_contains : One DeskArcContains.Kinds.ps DeskArcContains.Kinds.r DeskArcContains.Reads.Post
   pub desk_arc_intersection : One DeskArcIntersection.Kinds.ps DeskArcIntersection.Kinds.r DeskArcIntersection.Reads.Post
   pub desk_arc_relate : One DeskArcRelate.Kinds.ps DeskArcRelate.Kinds.r DeskArcRelate.Reads.Post
+  pub desk_arc_intersection_long : One DeskArcIntersectionLong.Kinds.ps DeskArcIntersectionLong.Kinds.r DeskArcIntersectionLong.Reads.Post
+  pub desk_arc_relate_long : One DeskArcRelateLong.Kinds.ps DeskArcRelateLong.Kinds.r DeskArcRelateLong.Reads.Post
   pub desk_scene : One DeskScene.Kinds.ps DeskScene.Kinds.r DeskScene.Reads.Post
   pub desk_radians : One DeskRadians.Kinds.ps DeskRadians.Kinds.r DeskRadians.Reads.Post
   pub desk_far : One DeskFar.Kinds.ps DeskFar.Kinds.r DeskFar.Reads.Post

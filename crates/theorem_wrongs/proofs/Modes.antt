@@ -26,7 +26,7 @@ use Rattle.theorem_modes.proofs.Rings.{ring, as-built, with-wide-built, with-do
 use Rattle.theorem_modes.proofs.Longs.{longs}
 use Rattle.theorem_wrongs.proofs.Computing.{of-places}
 use Rattle.theorem_wrongs.proofs.Apart.{told, answered, sure, of-ring, of-two}
-use Rattle.theorem_wrongs.specs.Modes.{half-by-y, half-by-z, twisted, behind, spread, outside-spread, longFour, placed, isSimple, isEquivalent, OfModes}
+use Rattle.theorem_wrongs.specs.Modes.{half-by-y, half-by-minus-z, twisted, behind, spread, outside-spread, longFour, placed, isSimple, isEquivalent, OfModes}
 
 -- what tells two answers apart, beside proofs/Apart
 abbrev number : ℤ → ℕ
@@ -83,7 +83,7 @@ start-side-alone-met : Arcs.intersectionAnswer Long wide down ≡ Arcs.answer (p
 unfolding of-answers
 start-side-alone-met e = let n : _≡_ {A = ℕ} 1 0 = ap arc-told e in omega (arith, n)
 
-opposite-reported : Arcs.relateAnswer Long half-by-y half-by-z ≡ Arcs.answer (pos 2) (opposite axis-x ∷ []) → ⊥
+opposite-reported : Arcs.relateAnswer Long half-by-y half-by-minus-z ≡ Arcs.answer (pos 2) (opposite axis-x ∷ []) → ⊥
 unfolding of-answers
 opposite-reported e = let n : _≡_ {A = ℕ} 0x3ff0_0000_0000_0000 0xbff0_0000_0000_0000 = ap point e in omega (arith, n)
 

@@ -26,7 +26,7 @@ use Rattle.loop_ask.specs.Questions.{placeAnswer, simpleAnswer, equivalentAnswe
 use Rattle.loop_relate.specs.Relations.{relateAnswer}
 use Rattle.bytes_loop.specs.Layout.{headerSize, headerAt}
 use Rattle.bytes_build.specs.Build.{buildOutcome}
-use Rattle.theorem_settled.specs.Settled.{six-tenths, eight-tenths, at, blank, blank-classes, flat-list, headerOf}
+use Rattle.theorem_settled.specs.Settled.{six-tenths, eight-tenths, at, blank, blank-classes, flat-list, headerOf, related}
 use Rattle.theorem_modes.specs.Longs.{wide, down, with-wide, with-down, in-the-other, in-the-one, builtIn, pair, paired}
 
 -- ---- the inputs
@@ -34,8 +34,8 @@ use Rattle.theorem_modes.specs.Longs.{wide, down, with-wide, with-down, in-the-
 abbrev pub half-by-y : MinorArc
 half-by-y = record { start = axis-x; end = opposite axis-x; normal = axis-z }
 
-abbrev pub half-by-z : MinorArc
-half-by-z = record { start = axis-x; end = opposite axis-x; normal = axis-y }
+abbrev pub half-by-minus-z : MinorArc
+half-by-minus-z = record { start = axis-x; end = opposite axis-x; normal = axis-y }
 
 -- four corners, whose first side crosses the third past a quarter turn from its start: (-0.8, 0.6, 0), (0.6, 0, 0.8), Z, (0.8, 0.6, 0)
 abbrev pub twisted : List Float
@@ -80,10 +80,7 @@ isSimple o = simpleAnswer (header o) (o .positions) (o .normals) (o .classes)
 abbrev pub isEquivalent : Build.Outcome → Build.Outcome → Told
 isEquivalent a b = equivalentAnswer (header a) (a .positions) (a .normals) (a .classes) (header b) (b .positions) (b .normals) (b .classes)
 
--- how loops without corners stand to each other, and the empty loop to a ring of three corners at the origin
-abbrev pub related : Header → Header → Told
-related h o = relateAnswer h [] [] [] o [] [] []
-
+-- how a loop without corners stands to a ring of three corners at the origin
 abbrev pub toNowhere : Header → Header → Told
 toNowhere h o = relateAnswer h [] [] [] o (blank 3) (blank 3) (blank-classes 3)
 
@@ -94,7 +91,7 @@ pub record OfModes : Type 0 where
   pub start-side-alone-met : Arcs.intersectionAnswer Long wide down ≡ Arcs.answer (pos 0) [] → ⊥
   pub both-in-plain-mode : paired Plain with-wide with-down ≡ answer 2 → ⊥
   -- the opposite point where both touch: the arcs share X, which is p, and -X
-  pub opposite-reported : Arcs.relateAnswer Long half-by-y half-by-z ≡ Arcs.answer (pos 2) (opposite axis-x ∷ []) → ⊥
+  pub opposite-reported : Arcs.relateAnswer Long half-by-y half-by-minus-z ≡ Arcs.answer (pos 2) (opposite axis-x ∷ []) → ⊥
   -- ---- one loop
   -- a place in a long loop by the plain rule: the arc from the first inside crosses one side, past a quarter turn from its start
   pub place-by-the-plain-rule : placed (longFour spread) outside-spread ≡ answer 1 → ⊥

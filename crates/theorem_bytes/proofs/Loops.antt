@@ -17,7 +17,8 @@ use Rattle.loop_header.specs.Loops.{stateCode}
 use Rattle.wire.specs.Wire.{u64Of, bytes8, floatsBytes}
 use Rattle.wire.proofs.Back.{float-back}
 use Rattle.wire.proofs.Lays.{floats-width}
-use Rattle.bytes_loop.specs.Layout.{headerSize, normalsFrom, classesFrom, loopSize, countAt, stateByte, marksAt, stateOf, marked, capAt, insidesAt, modeOf, headerAt, positionsAt, normalsAt, classesAt, markIf, areThere, isLong, marksOf, headerBytes}
+use Rattle.bytes_loop.specs.Layout.{headerSize, normalsFrom, classesFrom, loopSize, countAt, stateByte, marksAt, stateOf, marked, capAt, insidesAt, modeOf, headerAt}
+use Rattle.bytes_loop.specs.Layout.{positionsAt, normalsAt, classesAt, markIf, areThere, isLong, marksOf, headerBytes}
 use Rattle.bytes_loop.proofs.Parts.{header-width}
 use Rattle.theorem_built.specs.Built.{Loop}
 use Rattle.theorem_bytes.specs.Returned.{bytesOf, loopAt}

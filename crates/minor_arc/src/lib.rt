@@ -213,20 +213,18 @@ impl MinorArc {
         o.met(p, self.location(p))
     }
 
-    // By the points that the mode tries. What is interior to this arc has its opposite exterior to it, which is not looked at then.
+    // By the points that the mode tries. What is interior to this arc has its opposite exterior to it: then the modes agree.
     fn tried(self, mode: Mode, o: MinorArc, p: Vec3) -> Meeting
         requires { ⌜ Stored p ⌝ }
         ensures { λ r. ⌜ r ≡ Arcs.tried mode self o p ⌝ }
     {
         let l = self.location(p);
-        let m = o.met(p, l);
+        if is_interior(l) {
+            return meet_at(p, l, o.location(p));
+        }
         match mode {
-            Mode::Plain => m,
-            Mode::Long => if is_interior(l) {
-                m
-            } else {
-                better(m, self.meeting_in(o, p.neg()))
-            },
+            Mode::Plain => o.met(p, l),
+            Mode::Long => better(o.met(p, l), self.meeting_in(o, p.neg())),
         }
     }
 

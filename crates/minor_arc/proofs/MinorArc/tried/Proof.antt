@@ -1,4 +1,4 @@
--- Plain: one point's meeting. Long: the better of both points', which is the first's where that is interior to the first arc.
+-- Where the first point is interior to the first arc its own meeting decides in both modes; otherwise plain: its meeting, long: the better of both points'.
 use borrow.Author.Needs.{needs}
 use mathlib.Core.Path.{_≡_, refl, sym, _∙_}
 use mathlib.Core.Bool.{true, false≢true}
@@ -9,7 +9,8 @@ use Rattle.minor_arc.specs.declared.Location.{Location}
 use Rattle.minor_arc.specs.declared.Location.the-variants.{Endpoint, Interior, Exterior}
 use Rattle.minor_arc.specs.declared.Meeting.{Meeting}
 use Rattle.minor_arc.specs.declared.Meeting.the-variants as M
-use Rattle.minor_arc.specs.declared.Mode.the-variants.{Long}
+use Rattle.minor_arc.specs.declared.Mode.{Mode}
+use Rattle.minor_arc.specs.declared.Mode.the-variants.{Plain, Long}
 use Rattle.minor_arc.specs.Arcs.{interior, locationOf, meetingIn, better, tried}
 use Rattle.minor_arc.specs.Opposites.{to-first}
 use Rattle.minor_arc.proofs.Opposites.{opposite-laws}
@@ -29,48 +30,54 @@ is-interior Interior h = refl
 is-interior Endpoint h = absurd (false≢true h)
 is-interior Exterior h = absurd (false≢true h)
 
-first-alone : (a b : MinorArc) (p : Vec3) → Stored p → interior (locationOf a p) ≡ true → meetingIn a b p ≡ tried Long a b p
-first-alone a b p s h =
+first-alone : (mode : Mode) (a b : MinorArc) (p : Vec3) → Stored p → interior (locationOf a p) ≡ true → meetingIn a b p ≡ tried mode a b p
+first-alone Plain a b p s h = refl
+first-alone Long a b p s h =
     rw (opposite-laws .opposites a b p s .interior (to-first (is-interior (locationOf a p) h))) (sym (better-apart (meetingIn a b p)))
 
 returns : tie.Need-returns
 unfolding meetingIn
 returns c =
-    let met = c .before .before in
-    simp (c .enum-told .given .1, met .met .ensures, met .before .location .ensures)
+    let other = c .before in
+    let within = other .before in
+    let asked = within .before in
+    let first = asked .before in
+    let start = first .before in
+    let place = first .location .ensures in
+    simp (c .meet-at .ensures, other .location2 .ensures, place)
+    (first-alone (start .args .mode) (start .args .self) (start .args .o) (start .args .p) (start .pre)
+    (simp (← place) (sym (asked .is-interior .ensures) ∙ within .if1 .taken)))
 
 returns-2 : tie.Need-returns-2
 unfolding meetingIn
 returns-2 c =
-    let asked = c .before in
-    let long = asked .before in
-    let met = long .before .before in
-    let place = met .before .location .ensures in
-    let start = met .before .before in
-    simp (long .enum-told2 .given .1, met .met .ensures, place)
-    (first-alone (start .args .self) (start .args .o) (start .args .p) (start .pre) (simp (← place) (sym (asked .is-interior .ensures) ∙ c .if1 .taken)))
+    let plain = c .before in
+    let first = plain .before .before .before .before in
+    simp (plain .enum-told .given .1, c .met .ensures, first .location .ensures)
 
 returns-3 : tie.Need-returns-3
 unfolding meetingIn
 returns-3 c =
     let second = c .before in
     let turned = second .before in
-    let long = turned .before .before .before in
-    let met = long .before .before in
+    let met = turned .before in
+    let long = met .before in
+    let first = long .before .before .before .before in
     simp (
       long .enum-told2 .given .1,
       c .better .ensures,
       second .meeting-in .ensures,
       turned .neg .ensures,
-      met .met .ensures,
-      met .before .location .ensures,
+      met .met2 .ensures,
+      first .location .ensures,
     )
 
 pub tried-spec : {M : Type 1} → statement M
 tried-spec =
     tie.close
     (tie.spec
-    (λ c κs. tt) (λ c κs. tt) (λ c. search needs) (λ c. search needs) (λ c κs. tt) (λ c κs. tt) (λ c κs. tt) (λ c κs. tt)
+    (λ c κs. tt) (λ c κs. tt) (λ c κs. tt) (λ c κs. tt)
     returns
+    (λ c. search needs) (λ c κs. tt) (λ c. search needs) (λ c κs. tt) (λ c κs. tt) (λ c κs. tt) (λ c κs. tt)
     returns-2
     returns-3)

@@ -14,12 +14,12 @@ pub enum State {
 }
 
 // What a loop is beside its slices. Mute is not stored: it is a ring above three corners whose insides are absent, so nothing can contradict it. The mode is
-// the one that the loop was built in: its arcs meet others by it.
+// the one that the loop was built in: its arcs meet others by it. The four small fields stand together, so that one move copies them.
 pub struct Header {
     pub count: usize,
-    pub state: State,
     pub cap: Cap,
     pub insides: Insides,
+    pub state: State,
     pub reversed: bool,
     pub weak: bool,
     pub mode: Mode,

@@ -43,7 +43,8 @@ module _ (h : Header) (ps ns : List Float) (cs : List ℕ) (o : Header) (qs ms :
   unfolding nextTold
   second-fine q z t = rw (z, judged-first q (loopFault h ps ns cs) refl) t
 
-  pub second-wrong : (q : Comparison) (fault : ℕ) {g r : ℕ} → (loopFault h ps ns cs ≡ 0 → judged fault (toldOf q h ps ns cs o qs ms ds) ≡ refused g) → r ≡ noPair h ps ns cs g → r ≡ numberOf (nextTold q h ps ns cs fault o qs ms ds)
+  pub second-wrong : (q : Comparison) (fault : ℕ) {g r : ℕ} → (loopFault h ps ns cs ≡ 0 → judged fault (toldOf q h ps ns cs o qs ms ds) ≡ refused g) → r ≡ noPair h ps ns cs g
+      → r ≡ numberOf (nextTold q h ps ns cs fault o qs ms ds)
   unfolding nextTold
   second-wrong q fault {g} w t = rw t (at (loopFault h ps ns cs) refl)
     where

@@ -89,7 +89,9 @@ fn write_ring(
     classes: &mut [u8],
 ) -> Insides
     requires { ⌜ B.Ready (now list) n reversed (now edges) (now codes) (length (now positions)) (length (now normals)) (length (now classes)) ⌝ }
-    ensures { λ r. ⌜ record { insides = r; positions = now (positions .exit); normals = now (normals .exit); classes = now (classes .exit) } ≡ B.written (now (list .entry)) n reversed (now (positions .entry)) (now (normals .entry)) (now (classes .entry)) ⌝ }
+    ensures { λ r. ⌜
+        record { insides = r; positions = now (positions .exit); normals = now (normals .exit); classes = now (classes .exit) }
+        ≡ B.written (now (list .entry)) n reversed (now (positions .entry)) (now (normals .entry)) (now (classes .entry)) ⌝ }
 {
     ring_corners::write_corners(list, n, reversed, positions);
     ring_corners::write_normals(list, edges, n, reversed, normals);
@@ -109,7 +111,9 @@ fn make(
     classes: &mut [u8],
 ) -> Header
     requires { ⌜ B.Lent (now list) n (length (now edges)) (length (now codes)) (length (now positions)) (length (now normals)) (length (now classes)) ⌝ }
-    ensures { λ r. ⌜ record { header = r; positions = now (positions .exit); normals = now (normals .exit); classes = now (classes .exit) } ≡ B.made mode (now (list .entry)) n (now (positions .entry)) (now (normals .entry)) (now (classes .entry)) ⌝ }
+    ensures { λ r. ⌜
+        record { header = r; positions = now (positions .exit); normals = now (normals .exit); classes = now (classes .exit) }
+        ≡ B.made mode (now (list .entry)) n (now (positions .entry)) (now (normals .entry)) (now (classes .entry)) ⌝ }
 {
     let sum = prepare(list, n, edges, codes);
     if ring_corners::all_both(codes) {
@@ -138,7 +142,9 @@ fn make_large(
     classes: &mut [u8],
 ) -> Header
     requires { ⌜ B.Lent (now list) n (3 * n) n (length (now positions)) (length (now normals)) (length (now classes)) ⌝ }
-    ensures { λ r. ⌜ record { header = r; positions = now (positions .exit); normals = now (normals .exit); classes = now (classes .exit) } ≡ B.made mode (now (list .entry)) n (now (positions .entry)) (now (normals .entry)) (now (classes .entry)) ⌝ }
+    ensures { λ r. ⌜
+        record { header = r; positions = now (positions .exit); normals = now (normals .exit); classes = now (classes .exit) }
+        ≡ B.made mode (now (list .entry)) n (now (positions .entry)) (now (normals .entry)) (now (classes .entry)) ⌝ }
 {
     let size = 3 * n;
     let mut edges = [0.0f64; 1536];
@@ -165,7 +171,9 @@ fn make_small(
     classes: &mut [u8],
 ) -> Header
     requires { ⌜ B.Lent (now list) n (3 * n) n (length (now positions)) (length (now normals)) (length (now classes)) × (n ≤ 16) ⌝ }
-    ensures { λ r. ⌜ record { header = r; positions = now (positions .exit); normals = now (normals .exit); classes = now (classes .exit) } ≡ B.made mode (now (list .entry)) n (now (positions .entry)) (now (normals .entry)) (now (classes .entry)) ⌝ }
+    ensures { λ r. ⌜
+        record { header = r; positions = now (positions .exit); normals = now (normals .exit); classes = now (classes .exit) }
+        ≡ B.made mode (now (list .entry)) n (now (positions .entry)) (now (normals .entry)) (now (classes .entry)) ⌝ }
 {
     let size = 3 * n;
     let mut edges = [0.0f64; 48];
@@ -192,7 +200,9 @@ fn make_with(
     classes: &mut [u8],
 ) -> Header
     requires { ⌜ B.Lent (now list) n (3 * n) n (length (now positions)) (length (now normals)) (length (now classes)) ⌝ }
-    ensures { λ r. ⌜ record { header = r; positions = now (positions .exit); normals = now (normals .exit); classes = now (classes .exit) } ≡ B.made mode (now (list .entry)) n (now (positions .entry)) (now (normals .entry)) (now (classes .entry)) ⌝ }
+    ensures { λ r. ⌜
+        record { header = r; positions = now (positions .exit); normals = now (normals .exit); classes = now (classes .exit) }
+        ≡ B.made mode (now (list .entry)) n (now (positions .entry)) (now (normals .entry)) (now (classes .entry)) ⌝ }
 {
     if n <= 16 {
         return make_small(mode, list, n, positions, normals, classes);
@@ -208,7 +218,9 @@ pub fn build(
     normals: &mut [f64],
     classes: &mut [u8],
 ) -> Built
-    ensures { λ r. ⌜ record { answer = B.told r; positions = now (positions .exit); normals = now (normals .exit); classes = now (classes .exit) } ≡ B.buildOutcome mode (now (list .entry)) (now (positions .entry)) (now (normals .entry)) (now (classes .entry)) ⌝ }
+    ensures { λ r. ⌜
+        record { answer = B.told r; positions = now (positions .exit); normals = now (normals .exit); classes = now (classes .exit) }
+        ≡ B.buildOutcome mode (now (list .entry)) (now (positions .entry)) (now (normals .entry)) (now (classes .entry)) ⌝ }
 {
     let f = refusal_of(list, positions, normals, classes);
     if f != 0 {

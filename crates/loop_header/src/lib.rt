@@ -14,7 +14,7 @@ pub enum State {
 }
 
 // What a loop is beside its slices. Mute is not stored: it is a ring above three corners whose insides are absent, so nothing can contradict it. The mode is
-// the one that the loop was built in: its arcs meet others by it. The four small fields stand together, so that one move copies them.
+// the one that the loop was built in: its arcs meet others by it. The four small fields stand together: a header so takes fewer moves to copy.
 pub struct Header {
     pub count: usize,
     pub cap: Cap,

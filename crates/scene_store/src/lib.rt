@@ -35,7 +35,9 @@ fn build_from(
     classes: &mut [u8],
 ) -> Built
     requires { ⌜ St.Room (now s) at count used (length (now list)) (length (now positions)) (length (now normals)) (length (now classes)) ⌝ }
-    ensures { λ r. ⌜ record { answer = B.told r; positions = now (positions .exit); normals = now (normals .exit); classes = now (classes .exit) } ≡ St.builtAt (floatsAt (now (s .entry)) at count) used (now (positions .entry)) (now (normals .entry)) (now (classes .entry)) ⌝ }
+    ensures { λ r. ⌜
+        record { answer = B.told r; positions = now (positions .exit); normals = now (normals .exit); classes = now (classes .exit) }
+        ≡ St.builtAt (floatsAt (now (s .entry)) at count) used (now (positions .entry)) (now (normals .entry)) (now (classes .entry)) ⌝ }
 {
     wire::read_floats(s, at, list);
     let from = 3 * used;
@@ -59,7 +61,9 @@ pub fn build_area(
     classes: &mut [u8],
 ) -> Built
     requires { ⌜ (count ≤ 1024) × St.Room (now s) at count used (3 * count) (length (now positions)) (length (now normals)) (length (now classes)) ⌝ }
-    ensures { λ r. ⌜ record { answer = B.told r; positions = now (positions .exit); normals = now (normals .exit); classes = now (classes .exit) } ≡ St.builtAt (floatsAt (now (s .entry)) at count) used (now (positions .entry)) (now (normals .entry)) (now (classes .entry)) ⌝ }
+    ensures { λ r. ⌜
+        record { answer = B.told r; positions = now (positions .exit); normals = now (normals .exit); classes = now (classes .exit) }
+        ≡ St.builtAt (floatsAt (now (s .entry)) at count) used (now (positions .entry)) (now (normals .entry)) (now (classes .entry)) ⌝ }
 {
     let size = 3 * count;
     let mut list = [0.0f64; 3072];

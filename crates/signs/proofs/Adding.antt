@@ -9,7 +9,7 @@ use lib.Dec.{ltb}
 use lib.Ieee.{Float, nan, inf, fin, binary64, up, down, round, neg, add, sum}
 use lib.Ieee.Fits.{down-pos}
 use Rattle.numbers.proofs.Rounds.{round-zero}
-use Rattle.signs.specs.Signs.{flat}
+use Rattle.signs.specs.Signs.{clearedFloat}
 use Rattle.signs.proofs.Rounding.{round-neg}
 
 -- by which of the two is larger
@@ -56,23 +56,23 @@ add-order (fin s m e) (fin t n d) =
     ∙ ap (λ (c : ℕ). sum binary64 t (n * up d * down e) s (m * up e * down d) c) (mul-comm (down e) (down d))
 
 -- ---- the signs
--- a zero of either sign is flat
-zero-flat : (c : ℕ) → 0 < c → (n : ℕ) → n ≡ 0 → flat (round binary64 false n c) ≡ flat (neg (round binary64 false n c))
-unfolding flat neg
-zero-flat c h n e = rw (round-zero n c h e) refl
+-- a zero of either sign is clearedFloat
+zero-cleared : (c : ℕ) → 0 < c → (n : ℕ) → n ≡ 0 → clearedFloat (round binary64 false n c) ≡ clearedFloat (neg (round binary64 false n c))
+unfolding clearedFloat neg
+zero-cleared c h n e = rw (round-zero n c h e) refl
 
-sum-neg : (s t : Bool) (a b c : ℕ) → 0 < c → Against a b → flat (sum binary64 (not s) a (not t) b c) ≡ flat (neg (sum binary64 s a t b c))
+sum-neg : (s t : Bool) (a b c : ℕ) → 0 < c → Against a b → clearedFloat (sum binary64 (not s) a (not t) b c) ≡ clearedFloat (neg (sum binary64 s a t b c))
 unfolding sum
-sum-neg true true a b c h k = ap flat (round-neg true (a + b) c)
-sum-neg false false a b c h k = ap flat (round-neg false (a + b) c)
-sum-neg true false a b c h (less e f) = simp (e, f) (ap flat (round-neg false (b - a) c))
-sum-neg true false a b c h (more e f) = simp (e, f) (ap flat (round-neg true (a - b) c))
-sum-neg true false a b c h (even e f g) = simp (e, f) (zero-flat c h (a - b) (omega (arith, g)))
-sum-neg false true a b c h (less e f) = simp (e, f) (ap flat (round-neg true (b - a) c))
-sum-neg false true a b c h (more e f) = simp (e, f) (ap flat (round-neg false (a - b) c))
-sum-neg false true a b c h (even e f g) = simp (e, f) (zero-flat c h (a - b) (omega (arith, g)))
+sum-neg true true a b c h k = ap clearedFloat (round-neg true (a + b) c)
+sum-neg false false a b c h k = ap clearedFloat (round-neg false (a + b) c)
+sum-neg true false a b c h (less e f) = simp (e, f) (ap clearedFloat (round-neg false (b - a) c))
+sum-neg true false a b c h (more e f) = simp (e, f) (ap clearedFloat (round-neg true (a - b) c))
+sum-neg true false a b c h (even e f g) = simp (e, f) (zero-cleared c h (a - b) (omega (arith, g)))
+sum-neg false true a b c h (less e f) = simp (e, f) (ap clearedFloat (round-neg true (b - a) c))
+sum-neg false true a b c h (more e f) = simp (e, f) (ap clearedFloat (round-neg false (a - b) c))
+sum-neg false true a b c h (even e f g) = simp (e, f) (zero-cleared c h (a - b) (omega (arith, g)))
 
-pub add-neg : (x y : Float) → flat (add binary64 (neg x) (neg y)) ≡ flat (neg (add binary64 x y))
+pub add-neg : (x y : Float) → clearedFloat (add binary64 (neg x) (neg y)) ≡ clearedFloat (neg (add binary64 x y))
 unfolding add neg
 add-neg nan y = refl
 add-neg (inf s) nan = refl

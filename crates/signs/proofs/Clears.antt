@@ -17,7 +17,7 @@ use Rattle.numbers.proofs.Rounds.{round-zero}
 use Rattle.root.specs.Root.{inUnits}
 use Rattle.root.proofs.Units.{same-units, shape, exponent-le}
 use Rattle.vec3.specs.Vec.{vec, cleared}
-use Rattle.signs.specs.Signs.{flat, Unsigned}
+use Rattle.signs.specs.Signs.{clearedFloat, Unsigned}
 
 -- ---- what fits is rounded to itself
 fits-either : (s t : Bool) (m : ℕ) (e : ℤ) → T (fits binary64 (fin s m e)) → T (fits binary64 (fin t m e))
@@ -94,35 +94,35 @@ plus-zero true e =
     let l : 0 * up e * 1 ≤ 0 * 1 * down e = omega arith in
     simp (le-ltb (0 * 1 * down e) (0 * up e * 1) l) (round-zero (0 * 1 * down e - 0 * up e * 1) (1 * down e) (mul-pos (zero-lt-suc 0) (down-pos e)) (omega arith))
 
-pub stored : (x : Float) → T (fits binary64 x) → F._⊕_ F.zero x ≡ flat x
-unfolding flat
+pub stored : (x : Float) → T (fits binary64 x) → F._⊕_ F.zero x ≡ clearedFloat x
+unfolding clearedFloat
 stored nan t = unfold add ofBits in refl
 stored (inf s) t = unfold add ofBits in refl
 stored (fin s zero e) t = plus-zero s e
 stored (fin s (suc m) e) t = plus-some s m e t
 
 -- ---- what is clear stays as it is
-pub flat-twice : (x : Float) → flat (flat x) ≡ flat x
-unfolding flat
-flat-twice nan = refl
-flat-twice (inf s) = refl
-flat-twice (fin s zero e) = refl
-flat-twice (fin s (suc m) e) = refl
+pub cleared-twice : (x : Float) → clearedFloat (clearedFloat x) ≡ clearedFloat x
+unfolding clearedFloat
+cleared-twice nan = refl
+cleared-twice (inf s) = refl
+cleared-twice (fin s zero e) = refl
+cleared-twice (fin s (suc m) e) = refl
 
 minus-zero : fin true 0 (pos 0) ≡ neg F.zero
 unfolding neg ofBits
 minus-zero = refl
 
-unsigned-flat : (x : Float) → Unsigned x → flat x ≡ x
-unfolding flat
-unsigned-flat nan p = refl
-unsigned-flat (inf s) p = refl
-unsigned-flat (fin s (suc m) e) p = refl
-unsigned-flat (fin true zero e) p = absurd (p .signed (zero-exponent true e (p .held) ∙ minus-zero))
-unsigned-flat (fin false zero e) p = sym (zero-exponent false e (p .held))
+unsigned-cleared : (x : Float) → Unsigned x → clearedFloat x ≡ x
+unfolding clearedFloat
+unsigned-cleared nan p = refl
+unsigned-cleared (inf s) p = refl
+unsigned-cleared (fin s (suc m) e) p = refl
+unsigned-cleared (fin true zero e) p = absurd (p .signed (zero-exponent true e (p .held) ∙ minus-zero))
+unsigned-cleared (fin false zero e) p = sym (zero-exponent false e (p .held))
 
 pub plus-unsigned : (x : Float) → Unsigned x → F._⊕_ F.zero x ≡ x
-plus-unsigned x p = stored x (p .held) ∙ unsigned-flat x p
+plus-unsigned x p = stored x (p .held) ∙ unsigned-cleared x p
 
 -- 0.0 + x is not -0.0
 isMinus : Float → Bool
@@ -130,15 +130,15 @@ isMinus nan = false
 isMinus (inf s) = s
 isMinus (fin s m e) = s
 
-no-minus : flat (neg F.zero) ≡ neg F.zero → ⊥
-unfolding flat neg ofBits isMinus
+no-minus : clearedFloat (neg F.zero) ≡ neg F.zero → ⊥
+unfolding clearedFloat neg ofBits isMinus
 no-minus h = false≢true (ap isMinus h)
 
-flat-unsigned : (x : Float) → T (fits binary64 x) → flat x ≡ x → Unsigned x
-flat-unsigned x t h = record { held = t; signed = λ (e : x ≡ neg F.zero). no-minus (subst (λ (z : Float). flat z ≡ z) e h) }
+cleared-unsigned : (x : Float) → T (fits binary64 x) → clearedFloat x ≡ x → Unsigned x
+cleared-unsigned x t h = record { held = t; signed = λ (e : x ≡ neg F.zero). no-minus (subst (λ (z : Float). clearedFloat z ≡ z) e h) }
 
 pub stored-unsigned : (x : Float) → T (fits binary64 x) → Unsigned (F._⊕_ F.zero x)
-stored-unsigned x t = flat-unsigned (F._⊕_ F.zero x) (add-fits binary64 F.zero x) (ap flat (stored x t) ∙ flat-twice x ∙ sym (stored x t))
+stored-unsigned x t = cleared-unsigned (F._⊕_ F.zero x) (add-fits binary64 F.zero x) (ap clearedFloat (stored x t) ∙ cleared-twice x ∙ sym (stored x t))
 
 plus-again : (x : Float) → T (fits binary64 x) → F._⊕_ F.zero (F._⊕_ F.zero x) ≡ F._⊕_ F.zero x
 plus-again x t = plus-unsigned (F._⊕_ F.zero x) (stored-unsigned x t)

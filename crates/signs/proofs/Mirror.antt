@@ -14,21 +14,21 @@ use Rattle.vec3.specs.Vec.{opposite, dot, cross, orthogonalTo}
 use Rattle.base.specs.declared.Side.{Side}
 use Rattle.base.specs.declared.Side.the-variants.{Left, Right, Collinear}
 use Rattle.base.specs.Sides.{signOf, retestOf, sideOf}
-use Rattle.signs.specs.Signs.{flat, Unsigned}
+use Rattle.signs.specs.Signs.{clearedFloat, Unsigned}
 use Rattle.signs.specs.Mirrors.{mirror, isNumber, Stored, deciding, Mirrored, MirrorLaw}
-use Rattle.signs.proofs.Clears.{stored, flat-twice}
+use Rattle.signs.proofs.Clears.{stored, cleared-twice}
 use Rattle.signs.proofs.Rounding.{mul-neg}
 use Rattle.signs.proofs.Adding.{add-neg}
 use Rattle.signs.proofs.Alikes.{mul-alike-left, add-alike}
 use Rattle.signs.proofs.Tests.{ten-mirrored, above-mirrored, epsilon-is, ten-is, near-small, near-mirrored}
 
 -- ---- the product with the opposite vector
-component : (x k : Float) → Unsigned x → flat (F._⊗_ (F._⊕_ F.zero (neg x)) k) ≡ flat (neg (F._⊗_ x k))
+component : (x k : Float) → Unsigned x → clearedFloat (F._⊗_ (F._⊕_ F.zero (neg x)) k) ≡ clearedFloat (neg (F._⊗_ x k))
 component x k u =
-    mul-alike-left (F._⊕_ F.zero (neg x)) (neg x) k (ap flat (stored (neg x) (neg-fits binary64 x (u .held))) ∙ flat-twice (neg x))
-    ∙ ap flat (mul-neg x k)
+    mul-alike-left (F._⊕_ F.zero (neg x)) (neg x) k (ap clearedFloat (stored (neg x) (neg-fits binary64 x (u .held))) ∙ cleared-twice (neg x))
+    ∙ ap clearedFloat (mul-neg x k)
 
-pub dot-opposite : (v k : Vec3) → Stored v → flat (dot (opposite v) k) ≡ flat (neg (dot v k))
+pub dot-opposite : (v k : Vec3) → Stored v → clearedFloat (dot (opposite v) k) ≡ clearedFloat (neg (dot v k))
 dot-opposite v k s =
     let a = F._⊗_ (v .x) (k .x) in
     let b = F._⊗_ (v .y) (k .y) in
@@ -66,12 +66,12 @@ nan-right v u w n =
     nan-if (le (abs y) F.ten-epsilon) (dot v (orthogonalTo u w)) y n
 
 -- a number with its sign turned, or without a zero's sign, is a number
-number-flat : (x : Float) → isNumber (flat x) ≡ isNumber x
-unfolding flat
-number-flat nan = refl
-number-flat (inf s) = refl
-number-flat (fin s zero e) = refl
-number-flat (fin s (suc m) e) = refl
+number-cleared : (x : Float) → isNumber (clearedFloat x) ≡ isNumber x
+unfolding clearedFloat
+number-cleared nan = refl
+number-cleared (inf s) = refl
+number-cleared (fin s zero e) = refl
+number-cleared (fin s (suc m) e) = refl
 
 number-neg : (x : Float) → isNumber (neg x) ≡ isNumber x
 unfolding neg
@@ -79,8 +79,8 @@ number-neg nan = refl
 number-neg (inf s) = refl
 number-neg (fin s m e) = refl
 
-number-mirrored : (x y : Float) → flat x ≡ flat (neg y) → isNumber x ≡ isNumber y
-number-mirrored x y h = sym (number-flat x) ∙ ap isNumber h ∙ number-flat (neg y) ∙ number-neg y
+number-mirrored : (x y : Float) → clearedFloat x ≡ clearedFloat (neg y) → isNumber x ≡ isNumber y
+number-mirrored x y h = sym (number-cleared x) ∙ ap isNumber h ∙ number-cleared (neg y) ∙ number-neg y
 
 -- ---- the sign, the retest, and the side
 sign-if : (b c : Bool) → b ≡ not c → (if b then Left else Right) ≡ mirror (if c then Left else Right)

@@ -9,10 +9,10 @@ use Rattle.numbers.specs.F64 as F
 use Rattle.root.specs.Root.{rootOf}
 use Rattle.vec3.specs.declared.Vec3.{Vec3}
 use Rattle.vec3.specs.Vec.{vec, origin, opposite, unitVec, stableCross, stableUnit}
-use Rattle.signs.specs.Signs.{flat, Unsigned}
+use Rattle.signs.specs.Signs.{clearedFloat, Unsigned}
 use Rattle.signs.specs.Mirrors.{Stored}
 use Rattle.signs.proofs.Clears.{stored, plus-unsigned, stored-unsigned}
-use Rattle.signs.proofs.Alikes.{neg-twice, neg-flat}
+use Rattle.signs.proofs.Alikes.{neg-twice, neg-cleared}
 
 pub vec-stored : (a b c : Float) → T (fits binary64 a) → T (fits binary64 b) → T (fits binary64 c) → Stored (vec a b c)
 vec-stored a b c p q r = record { on-x = stored-unsigned a p; on-y = stored-unsigned b q; on-z = stored-unsigned c r }
@@ -43,9 +43,9 @@ back : (x : Float) → Unsigned x → F._⊕_ F.zero (neg (F._⊕_ F.zero (neg x
 back x h =
     let a = F._⊕_ F.zero (neg x) in
     stored (neg a) (neg-fits binary64 a (add-fits binary64 F.zero (neg x)))
-    ∙ ap (λ (z : Float). flat (neg z)) (stored (neg x) (neg-fits binary64 x (h .held)))
-    ∙ sym (neg-flat (neg x))
-    ∙ ap flat (neg-twice x)
+    ∙ ap (λ (z : Float). clearedFloat (neg z)) (stored (neg x) (neg-fits binary64 x (h .held)))
+    ∙ sym (neg-cleared (neg x))
+    ∙ ap clearedFloat (neg-twice x)
     ∙ sym (stored x (h .held))
     ∙ plus-unsigned x h
 

@@ -11,11 +11,11 @@ use Rattle.numbers.specs.F64 as F
 use Rattle.root.specs.Root.{rootOf}
 use Rattle.vec3.specs.declared.Vec3.{Vec3}
 use Rattle.vec3.specs.Vec.{vec, origin, opposite, summed, parted, unitVec, stableUnit}
-use Rattle.signs.specs.Signs.{flat}
+use Rattle.signs.specs.Signs.{clearedFloat}
 use Rattle.signs.proofs.Clears.{zero-exponent, stored}
 use Rattle.signs.proofs.Rounding.{mul-neg}
 use Rattle.signs.proofs.Adding.{add-order, add-neg}
-use Rattle.signs.proofs.Alikes.{neg-twice, neg-flat, mul-alike-left, mul-alike-right, mul-neg-right, add-alike, sub-swapped}
+use Rattle.signs.proofs.Alikes.{neg-twice, neg-cleared, mul-alike-left, mul-alike-right, mul-neg-right, add-alike, sub-swapped}
 
 -- ---- a square has no sign
 square-signs : (x : Float) → mul binary64 (neg x) (neg x) ≡ mul binary64 x x
@@ -47,12 +47,12 @@ above-units q k = above-if (ltb (q * 2 ^ k) (2 ^ 2098)) q k
 above-round : (num den : ℕ) → Above (round binary64 false num den)
 above-round num den = subst Above (sym (round-is binary64 false num den)) (above-units _ _)
 
-above-is-flat : (x : Float) → Above x → T (fits binary64 x) → flat x ≡ x
-unfolding flat
-above-is-flat nan a t = refl
-above-is-flat (inf s) a t = refl
-above-is-flat (fin false zero e) a t = sym (zero-exponent false e t)
-above-is-flat (fin false (suc m) e) a t = refl
+above-is-cleared : (x : Float) → Above x → T (fits binary64 x) → clearedFloat x ≡ x
+unfolding clearedFloat
+above-is-cleared nan a t = refl
+above-is-cleared (inf s) a t = refl
+above-is-cleared (fin false zero e) a t = sym (zero-exponent false e t)
+above-is-cleared (fin false (suc m) e) a t = refl
 
 square-above : (x : Float) → Above (mul binary64 x x)
 unfolding mul
@@ -63,45 +63,45 @@ square-above (fin s m e) =
     let d = down e in
     subst (λ (b : Bool). Above (round binary64 b (n * n) (d * d))) (sym (unlike-itself s)) (above-round (n * n) (d * d))
 
-square-flat : (x : Float) → flat (mul binary64 x x) ≡ mul binary64 x x
-square-flat x = above-is-flat (mul binary64 x x) (square-above x) (mul-fits binary64 x x)
+square-cleared : (x : Float) → clearedFloat (mul binary64 x x) ≡ mul binary64 x x
+square-cleared x = above-is-cleared (mul binary64 x x) (square-above x) (mul-fits binary64 x x)
 
 -- of two that are negations but for a zero's sign
-square-same : (x y : Float) → flat x ≡ flat (neg y) → mul binary64 x x ≡ mul binary64 y y
-square-same x y h = sym (square-flat x) ∙ mul-alike-left x (neg y) x h ∙ mul-alike-right (neg y) x (neg y) h ∙ ap flat (square-signs y) ∙ square-flat y
+square-same : (x y : Float) → clearedFloat x ≡ clearedFloat (neg y) → mul binary64 x x ≡ mul binary64 y y
+square-same x y h = sym (square-cleared x) ∙ mul-alike-left x (neg y) x h ∙ mul-alike-right (neg y) x (neg y) h ∙ ap clearedFloat (square-signs y) ∙ square-cleared y
 
 -- ---- the components of (v + u) × (v - u), exchanged
-component : (a b c d b' d' : Float) → flat b' ≡ flat (neg b) → flat d' ≡ flat (neg d)
-    → flat (F._⊖_ (F._⊗_ a b') (F._⊗_ c d')) ≡ flat (neg (F._⊖_ (F._⊗_ a b) (F._⊗_ c d)))
+component : (a b c d b' d' : Float) → clearedFloat b' ≡ clearedFloat (neg b) → clearedFloat d' ≡ clearedFloat (neg d)
+    → clearedFloat (F._⊖_ (F._⊗_ a b') (F._⊗_ c d')) ≡ clearedFloat (neg (F._⊖_ (F._⊗_ a b) (F._⊗_ c d)))
 unfolding sub
 component a b c d b' d' g h =
-    let p = mul-alike-right a b' (neg b) g ∙ ap flat (mul-neg-right a b) in
-    let q = mul-alike-right c d' (neg d) h ∙ ap flat (mul-neg-right c d) in
-    let r = neg-flat (F._⊗_ c d') ∙ ap (λ (z : Float). flat (neg z)) q ∙ sym (neg-flat (neg (F._⊗_ c d))) in
+    let p = mul-alike-right a b' (neg b) g ∙ ap clearedFloat (mul-neg-right a b) in
+    let q = mul-alike-right c d' (neg d) h ∙ ap clearedFloat (mul-neg-right c d) in
+    let r = neg-cleared (F._⊗_ c d') ∙ ap (λ (z : Float). clearedFloat (neg z)) q ∙ sym (neg-cleared (neg (F._⊗_ c d))) in
     add-alike (F._⊗_ a b') (neg (F._⊗_ a b)) (neg (F._⊗_ c d')) (neg (neg (F._⊗_ c d))) p r
     ∙ add-neg (F._⊗_ a b) (neg (F._⊗_ c d))
 
 -- ---- at unit length
-scaled : (k a b : Float) → flat a ≡ flat (neg b) → F._⊕_ F.zero (F._⊗_ k a) ≡ F._⊕_ F.zero (neg (F._⊕_ F.zero (F._⊗_ k b)))
+scaled : (k a b : Float) → clearedFloat a ≡ clearedFloat (neg b) → F._⊕_ F.zero (F._⊗_ k a) ≡ F._⊕_ F.zero (neg (F._⊕_ F.zero (F._⊗_ k b)))
 scaled k a b h =
     let w = F._⊗_ k b in
     stored (F._⊗_ k a) (mul-fits binary64 k a)
     ∙ mul-alike-right k a (neg b) h
-    ∙ ap flat (mul-neg-right k b)
-    ∙ neg-flat w
-    ∙ ap (λ (z : Float). flat (neg z)) (sym (stored w (mul-fits binary64 k b)))
+    ∙ ap clearedFloat (mul-neg-right k b)
+    ∙ neg-cleared w
+    ∙ ap (λ (z : Float). clearedFloat (neg z)) (sym (stored w (mul-fits binary64 k b)))
     ∙ sym (stored (neg (F._⊕_ F.zero w)) (neg-fits binary64 (F._⊕_ F.zero w) (add-fits binary64 F.zero w)))
 
 opposite-origin : opposite origin ≡ origin
 unfolding add neg ofBits
 opposite-origin = refl
 
-unit-if : (z : Bool) (k a b c a' b' c' : Float) → flat a ≡ flat (neg a') → flat b ≡ flat (neg b') → flat c ≡ flat (neg c')
+unit-if : (z : Bool) (k a b c a' b' c' : Float) → clearedFloat a ≡ clearedFloat (neg a') → clearedFloat b ≡ clearedFloat (neg b') → clearedFloat c ≡ clearedFloat (neg c')
     → (if z then origin else vec (F._⊗_ k a) (F._⊗_ k b) (F._⊗_ k c)) ≡ opposite (if z then origin else vec (F._⊗_ k a') (F._⊗_ k b') (F._⊗_ k c'))
 unit-if true k a b c a' b' c' f g h = sym opposite-origin
 unit-if false k a b c a' b' c' f g h = rw (scaled k a a' f, scaled k b b' g, scaled k c c' h) refl
 
-unit-swapped : (a b c a' b' c' : Float) → flat a ≡ flat (neg a') → flat b ≡ flat (neg b') → flat c ≡ flat (neg c') → unitVec a b c ≡ opposite (unitVec a' b' c')
+unit-swapped : (a b c a' b' c' : Float) → clearedFloat a ≡ clearedFloat (neg a') → clearedFloat b ≡ clearedFloat (neg b') → clearedFloat c ≡ clearedFloat (neg c') → unitVec a b c ≡ opposite (unitVec a' b' c')
 unfolding unitVec
 unit-swapped a b c a' b' c' f g h =
     let n' = rootOf (F._⊕_ (F._⊕_ (F._⊗_ a' a') (F._⊗_ b' b')) (F._⊗_ c' c')) in

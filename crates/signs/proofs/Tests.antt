@@ -12,7 +12,7 @@ use lib.Ieee.Fits.{up-pos, down-pos, neg-fits}
 use Rattle.numbers.specs.F64 as F
 use Rattle.numbers.specs.Near.{abs, near}
 use Rattle.base.specs.Sides.{settlesRight, settlesLeft}
-use Rattle.signs.specs.Signs.{flat}
+use Rattle.signs.specs.Signs.{clearedFloat}
 use Rattle.signs.specs.Mirrors.{isNumber}
 use Rattle.signs.proofs.Clears.{stored}
 use Rattle.signs.proofs.Alikes.{zero-times}
@@ -46,16 +46,16 @@ over-zero : (e : ℤ) → lt F.zero (fin false 0 e) ≡ false
 unfolding lt ofBits
 over-zero e = le-ltb (0 * 1 * down e) (0 * up e * 1) (omega arith)
 
-pub above-flat : (x : Float) → lt F.zero (flat x) ≡ lt F.zero x
-unfolding flat
-above-flat nan = refl
-above-flat (inf s) = refl
-above-flat (fin true zero e) = over-zero (pos 0) ∙ sym (over-minus 0 e)
-above-flat (fin false zero e) = over-zero (pos 0) ∙ sym (over-zero e)
-above-flat (fin s (suc m) e) = refl
+pub above-cleared : (x : Float) → lt F.zero (clearedFloat x) ≡ lt F.zero x
+unfolding clearedFloat
+above-cleared nan = refl
+above-cleared (inf s) = refl
+above-cleared (fin true zero e) = over-zero (pos 0) ∙ sym (over-minus 0 e)
+above-cleared (fin false zero e) = over-zero (pos 0) ∙ sym (over-zero e)
+above-cleared (fin s (suc m) e) = refl
 
-above-level : (x y : Float) → flat x ≡ flat y → lt F.zero x ≡ lt F.zero y
-above-level x y h = sym (above-flat x) ∙ ap (λ (z : Float). lt F.zero z) h ∙ above-flat y
+above-level : (x y : Float) → clearedFloat x ≡ clearedFloat y → lt F.zero x ≡ lt F.zero y
+above-level x y h = sym (above-cleared x) ∙ ap (λ (z : Float). lt F.zero z) h ∙ above-cleared y
 
 -- above zero one way round is not so the other way round
 over-some : (s : Bool) (m : ℕ) (e : ℤ) → lt F.zero (fin (not s) (suc m) e) ≡ not (lt F.zero (fin s (suc m) e))
@@ -107,15 +107,15 @@ module _ (k : ℕ) (d : ℤ) where
   zero-small true e = rw (size-zero e) (zero-below true e)
   zero-small false e = rw (size-plus 0 e) (zero-below false e)
 
-  pub small-flat : (x : Float) → small (flat x) ≡ small x
-  unfolding flat
-  small-flat nan = refl
-  small-flat (inf s) = refl
-  small-flat (fin s zero e) = zero-small false (pos 0) ∙ sym (zero-small s e)
-  small-flat (fin s (suc m) e) = refl
+  pub small-cleared : (x : Float) → small (clearedFloat x) ≡ small x
+  unfolding clearedFloat
+  small-cleared nan = refl
+  small-cleared (inf s) = refl
+  small-cleared (fin s zero e) = zero-small false (pos 0) ∙ sym (zero-small s e)
+  small-cleared (fin s (suc m) e) = refl
 
-  small-level : (x y : Float) → flat x ≡ flat y → small x ≡ small y
-  small-level x y h = sym (small-flat x) ∙ ap small h ∙ small-flat y
+  small-level : (x y : Float) → clearedFloat x ≡ clearedFloat y → small x ≡ small y
+  small-level x y h = sym (small-cleared x) ∙ ap small h ∙ small-cleared y
 
   small-neg : (x : Float) → small (neg x) ≡ small x
   unfolding neg
@@ -125,7 +125,7 @@ module _ (k : ℕ) (d : ℤ) where
   small-neg (fin true (suc m) e) = rw (size-minus m e, size-plus (suc m) e) refl
   small-neg (fin false (suc m) e) = rw (size-minus m e, size-plus (suc m) e) refl
 
-  small-mirrored : (x y : Float) → flat x ≡ flat (neg y) → small x ≡ small y
+  small-mirrored : (x y : Float) → clearedFloat x ≡ clearedFloat (neg y) → small x ≡ small y
   small-mirrored x y h = small-level x (neg y) h ∙ small-neg y
 
   -- what is not small is above zero or below it
@@ -136,7 +136,7 @@ module _ (k : ℕ) (d : ℤ) where
   over-neg (fin s zero e) n l = absurd (false≢true (sym l ∙ zero-small s e))
   over-neg (fin s (suc m) e) n l = over-some s m e
 
-  pub above-mirrored : (x y : Float) → flat x ≡ flat (neg y) → isNumber y ≡ true → small y ≡ false → lt F.zero x ≡ not (lt F.zero y)
+  pub above-mirrored : (x y : Float) → clearedFloat x ≡ clearedFloat (neg y) → isNumber y ≡ true → small y ≡ false → lt F.zero x ≡ not (lt F.zero y)
   above-mirrored x y h n l = above-level x (neg y) h ∙ over-neg y n l
 
 -- ---- 2^-52 and 10 * 2^-52
@@ -151,20 +151,20 @@ ten-is = refl
 -- within 2^-52 of zero is a small size
 pub near-small : (x : Float) → T (fits binary64 x) → near x F.zero ≡ le (abs x) F.epsilon
 unfolding sub
-near-small x t = rw (stored (neg x) (neg-fits binary64 x t), epsilon-is) (small-flat 0 (negsuc 51) (neg x) ∙ small-neg 0 (negsuc 51) x)
+near-small x t = rw (stored (neg x) (neg-fits binary64 x t), epsilon-is) (small-cleared 0 (negsuc 51) (neg x) ∙ small-neg 0 (negsuc 51) x)
 
-pub near-mirrored : (x y : Float) → T (fits binary64 x) → T (fits binary64 y) → flat x ≡ flat (neg y) → near x F.zero ≡ near y F.zero
+pub near-mirrored : (x y : Float) → T (fits binary64 x) → T (fits binary64 y) → clearedFloat x ≡ clearedFloat (neg y) → near x F.zero ≡ near y F.zero
 near-mirrored x y s t h = near-small x s ∙ rw epsilon-is (small-mirrored 0 (negsuc 51) x y h) ∙ sym (near-small y t)
 
-pub ten-mirrored : (x y : Float) → flat x ≡ flat (neg y) → le (abs x) F.ten-epsilon ≡ le (abs y) F.ten-epsilon
+pub ten-mirrored : (x y : Float) → clearedFloat x ≡ clearedFloat (neg y) → le (abs x) F.ten-epsilon ≡ le (abs y) F.ten-epsilon
 ten-mirrored x y h = rw ten-is (small-mirrored 4 (negsuc 50) x y h)
 
 -- ---- a product that settles its side alone
-ten-level : (x y : Float) → flat x ≡ flat y → le (abs x) F.ten-epsilon ≡ le (abs y) F.ten-epsilon
+ten-level : (x y : Float) → clearedFloat x ≡ clearedFloat y → le (abs x) F.ten-epsilon ≡ le (abs y) F.ten-epsilon
 ten-level x y h = rw ten-is (small-level 4 (negsuc 50) x y h)
 
-pub settles-right-level : (x y : Float) → flat x ≡ flat y → settlesRight x ≡ settlesRight y
+pub settles-right-level : (x y : Float) → clearedFloat x ≡ clearedFloat y → settlesRight x ≡ settlesRight y
 settles-right-level x y h = rw (ten-level x y h, above-level x y h) refl
 
-pub settles-left-level : (x y : Float) → flat x ≡ flat y → settlesLeft x ≡ settlesLeft y
+pub settles-left-level : (x y : Float) → clearedFloat x ≡ clearedFloat y → settlesLeft x ≡ settlesLeft y
 settles-left-level x y h = rw (ten-level x y h, above-level x y h) refl

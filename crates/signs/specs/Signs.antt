@@ -9,11 +9,11 @@ use Rattle.numbers.specs.F64 as F
 use Rattle.vec3.specs.declared.Vec3.{Vec3}
 
 -- a zero without its sign, everything else as it is
-unfoldable pub flat : Float → Float
-flat nan = nan
-flat (inf s) = inf s
-flat (fin s zero e) = fin false zero (pos zero)
-flat (fin s (suc m) e) = fin s (suc m) e
+unfoldable pub clearedFloat : Float → Float
+clearedFloat nan = nan
+clearedFloat (inf s) = inf s
+clearedFloat (fin s zero e) = fin false zero (pos zero)
+clearedFloat (fin s (suc m) e) = fin s (suc m) e
 
 -- a float of the format that is not -0.0, and a vector of them
 pub record Unsigned (x : Float) : Type 0 where

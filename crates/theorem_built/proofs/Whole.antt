@@ -23,6 +23,7 @@ use Rattle.loop_build.specs.Build as B
 use Rattle.loop_build.specs.Build.{Doubles, listFault, openedCount, refusal, ringHeader, madeIf, made, outcomeOf, outcomeIf, outcomeBy, buildOutcome}
 use Rattle.loop_build.proofs.Rooms.{Listed, list-fine, fine}
 use Rattle.loop_build.proofs.Builts.{codes-count, positions-fine, built-cuttable}
+use Rattle.loop_build.proofs.Modes.{modes}
 use Rattle.theorem_built.specs.Built.{Loop, handedBack, AsBuilt, as-built, ask}
 use Rattle.theorem_built.proofs.Normals.{normals-fine}
 use Rattle.theorem_built.proofs.Caps.{bounded-fine, cap-bounded}
@@ -127,22 +128,5 @@ some mode l ps ns cs d z =
 pub whole : (a : Loop) → AsBuilt a → ask loopFault a ≡ 0
 whole = of-three (λ a. ask loopFault a ≡ 0) empty-fine full-fine (λ mode l d f reversed n o g. ring-fine l d f reversed n o g mode)
 
--- ---- the mode that is stored
-module _ (mode : Mode) (l ps ns : List Float) (cs : List ℕ) {h : Header} where
-  made-mode : (both reversed : Bool) (n : ℕ) → B.loop (madeIf both mode l n reversed ps ns cs .header) ≡ B.loop h → h .mode ≡ mode
-  unfolding ringHeader
-  made-mode true reversed n e = rw (← same e)
-  made-mode false reversed n e = rw (← same e)
-
-  counted-mode : (few : Bool) (n : ℕ) → outcomeIf few mode l n ps ns cs .answer ≡ B.loop h → h .mode ≡ mode
-  unfolding made
-  counted-mode true n e = rw (← same e)
-  counted-mode false n e = made-mode (allBoth (classesOf l n (reversal l n))) (reversal l n) n e
-
-  given-mode : (k : ℕ) → outcomeBy k mode l ps ns cs .answer ≡ B.loop h → h .mode ≡ mode
-  given-mode zero e = counted-mode (ltb (openedCount l) 3) (openedCount l) e
-  given-mode (suc k) e = absurd (let x : _≡_ {A = ℕ} 0 1 = cc in omega arith)
-
 pub stored-mode : (mode : Mode) (l ps ns : List Float) (cs : List ℕ) (h : Header) → buildOutcome mode l ps ns cs .answer ≡ B.loop h → h .mode ≡ mode
-unfolding buildOutcome
-stored-mode mode l ps ns cs h e = given-mode mode l ps ns cs (refusal l ps ns cs) e
+stored-mode mode l ps ns cs h e = modes l ps ns cs .stored mode h e

@@ -98,39 +98,6 @@ static void places(void) {
     HOLD(desk_place(LOOP(loop), BYTES(octant), 24), DESK_PLACE_MUTE);
 }
 
-/* Answers with their word: what the call without it answers, and DESK_CLOSE where it is close; none for a refusal. */
-static void words(void) {
-    double ps[DESK_LIST_FLOATS(3)], ns[DESK_LIST_FLOATS(3)];
-    uint8_t header[DESK_HEADER_BYTES], classes[3], a[DESK_ARC_BYTES], b[DESK_ARC_BYTES];
-    BUILD(loop, octant);
-    HOLD(desk_place_close(LOOP(loop), BYTES(straight + 3), 24), DESK_PLACE_OUTSIDE + DESK_CLOSE); /* on an edge */
-    HOLD(desk_place_close(LOOP(loop), BYTES(octant), 24), DESK_PLACE_OUTSIDE + DESK_CLOSE);       /* a corner */
-    HOLD(desk_place_close(LOOP(loop), BYTES(across), 24), DESK_PLACE_INSIDE);
-    HOLD(desk_place_close(LOOP(loop), BYTES(across + 3), 24), DESK_PLACE_OUTSIDE);
-    HOLD(desk_place_close(LOOP(loop), BYTES(longer), 24), DESK_REFUSED_NOT_UNIT);
-    HOLD(desk_place_close(LOOP(loop), BYTES(longer), 24) & DESK_CLOSE, 0);
-    HOLD(desk_build_f64(octant, 9, header, sizeof header, ps, 9, ns, 9, classes, 3), 3);
-    HOLD(desk_place_close_f64(header, sizeof header, ps, 9, ns, 9, classes, 3, 0.6, 0.8, 0), DESK_PLACE_OUTSIDE + DESK_CLOSE);
-    HOLD(desk_place_close_f64(header, sizeof header, ps, 9, ns, 9, classes, 3, 0.36, 0.48, 0.8), DESK_PLACE_INSIDE);
-    BUILD(loop, silent);
-    HOLD(desk_place_close(LOOP(loop), BYTES(octant), 24), DESK_PLACE_MUTE);
-    HOLD(desk_triangles_close(LOOP(loop), out, sizeof out), DESK_REFUSED_NO_EAR);
-    BUILD(loop, square);
-    HOLD(desk_triangles_close(LOOP(loop), out, DESK_TRIANGLES_BYTES(4u) - 1), DESK_REFUSED_ROOM);
-    HOLD(desk_triangles_close(LOOP(loop), out, DESK_TRIANGLES_BYTES(4u)), DESK_TRIANGLES(4u));
-    HOLD(desk_accepts(LOOP(loop), out, DESK_TRIANGLES_BYTES(4u)), DESK_YES);
-    BUILD(loop, straight);
-    HOLD(desk_triangles_close(LOOP(loop), out, sizeof out), DESK_TRIANGLES(4u) + DESK_CLOSE); /* three corners on the equator */
-    HOLD(desk_arc(BYTES(octant), 24, BYTES(octant + 3), 24, a, sizeof a), 0);
-    HOLD(desk_arc(BYTES(across), 24, BYTES(across + 3), 24, b, sizeof b), 0);
-    HOLD(desk_arc_relate_close(a, sizeof a, b, sizeof b, out, DESK_POSITION_BYTES - 1), DESK_REFUSED_ROOM);
-    HOLD(desk_arc_relate_close(a, sizeof a, b, sizeof b, out, DESK_POSITION_BYTES), DESK_ARCS_INTERSECTING);
-    HOLD(desk_arc_relate_long_close(a, sizeof a, b, sizeof b, out, DESK_POSITION_BYTES), DESK_ARCS_INTERSECTING);
-    HOLD(desk_arc(BYTES(octant), 24, BYTES(octant + 6), 24, b, sizeof b), 0);
-    HOLD(desk_arc_relate_close(a, sizeof a, b, sizeof b, out, DESK_POSITION_BYTES), DESK_ARCS_TOUCHING + DESK_CLOSE);
-    HOLD(desk_arc_relate_long_close(a, sizeof a, b, sizeof b, out, DESK_POSITION_BYTES), DESK_ARCS_TOUCHING + DESK_CLOSE);
-}
-
 static void pair(const double *a, size_t n, const double *b, size_t m, uint32_t wanted) {
     build(&loop, a, n);
     build(&other, b, m);
@@ -328,7 +295,7 @@ static int last(size_t size, const char *line) {
 /* A text that nearly fills its room: two areas of five digits that intersect, four places, and pairs up to the scene's last byte. A byte
    more is refused. */
 static void longest(void) {
-    const size_t n = 2 * 36 + 4 * 26 + 6520 * 30 + 9;
+    const size_t n = 2 * 36 + 4 * 20 + 6520 * 30 + 9;
     size_t at = put(put(0, 1, 65534, 0, square, 4), 1, 65535, 0, turned, 4), i;
     for (i = 0; i < 4; i++)
         at = put(at, 2, 65534, 0, south, 1);
@@ -375,7 +342,6 @@ static void scenes(void) {
 int main(void) {
     headers();
     places();
-    words();
     pairs();
     arcs();
     modes();

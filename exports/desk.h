@@ -7,12 +7,6 @@
    A size is answered as a uint64_t below DESK_REFUSED_SIZE, and a refusal there is DESK_REFUSED_SIZE plus its number
    (DESK_REFUSED_SIZE_..). Nothing needs to be checked beforehand, and bytes past a result stay as they were.
 
-   THE WORD. A call whose name has _close answers, writes and refuses what the call without it does, and adds DESK_CLOSE
-   to an answer that is close: some side test taken for it met a product of at most 10 * 2^-52 in size and was decided
-   by the retest, so that a last digit decided. An answer that has it not is clear: no retest was needed, and no more.
-   Clear does not say that the answer is the one to trust, as arcs and places hand the side test normals and points that
-   were rounded before. A refusal has no word, and answer & DESK_CLOSE is 0 for it.
-
    BUFFERS. A slice is a pointer and a count of elements (bytes, doubles or uint16_t, by the pointer's type); the
    pointer may be null where the count is 0. Bytes may stand at any address; doubles and uint16_t are aligned as C
    aligns them (8 and 2 bytes). Slices that are only read may overlap. A slice that is written overlaps no other.
@@ -39,9 +33,8 @@
    A loop is PLAIN or LONG, by the mark DESK_MARK_LONG, which desk_build_long and desk_build_long_f64 set, for empty and
    full too, and desk_build and desk_build_f64 do not. Two great circles meet in two points, opposite each other. Plain
    takes the one on the side of the first arc's start alone, and misses a meeting that is a quarter circle or more from
-   it; long tries both, and asks no cap. desk_place, desk_pair, desk_simple and their _f64 and _close forms go by the
-   mark, no other call reads it, and desk_pair and desk_pair_f64 refuse two loops of which one alone has it
-   (DESK_REFUSED_MODES).
+   it; long tries both, and asks no cap. desk_place, desk_pair, desk_simple and their _f64 forms go by the mark, no other
+   call reads it, and desk_pair and desk_pair_f64 refuse two loops of which one alone has it (DESK_REFUSED_MODES).
    What desk_build, desk_build_long or one of their _f64 forms wrote, as many bytes or elements of it as a loop of the
    count it answered has, handed back as it is, is refused by no call for what it is. With room, a position that is fine
    and triangles in sixes of bytes there is no other refusal than DESK_REFUSED_NO_EAR of desk_triangles,
@@ -87,9 +80,6 @@ extern "C" {
 #define DESK_REFUSED_SIZE UINT64_C(4294967296)
 #define DESK_IS_REFUSED_SIZE(answer) ((answer) >= DESK_REFUSED_SIZE)
 #define DESK_REFUSED_SIZE_ROOM (DESK_REFUSED_SIZE + 5u) /* an output is shorter than the result needs */
-
-/* ---- the word: added to an answer of a call with _close, never to a refusal */
-#define DESK_CLOSE 32768u /* a last digit decided; without it no retest was needed, no more */
 
 /* ---- sizes */
 #define DESK_MOST_POSITIONS 512u                    /* in a list, and corners of a ring */
@@ -166,12 +156,6 @@ uint32_t desk_build_long(const uint8_t *list, size_t list_len, uint8_t *out, siz
    desk_vertex and desk_on_edge tell of the border. Refuses: the loop's, then the position's. */
 uint32_t desk_place(const uint8_t *loop, size_t loop_len, const uint8_t *position, size_t position_len);
 
-/* The same, with DESK_CLOSE added where it is close. By insides: where the way from an inside is held against some edge,
-   met or not; nothing is tested where the cap excludes the position or it is an inside. Three corners: where one of the
-   position's products with the three normals is at most 10 * 2^-52 in size, whatever the answer. Mute, empty and full
-   are clear. */
-uint32_t desk_place_close(const uint8_t *loop, size_t loop_len, const uint8_t *position, size_t position_len);
-
 /* DESK_PAIR_..: how a stands to b. A mute loop contains nothing here, and which side of a weak one is inside hangs on
    rounding: with either the answer tells nothing sure, DESK_PAIR_DISJOINT least of all.
    Refuses: those of a, those of b, MODES, whatever the states, BOTH_WAYS. */
@@ -194,10 +178,6 @@ uint32_t desk_on_edge(const uint8_t *loop, size_t loop_len, const uint8_t *posit
    n-2 for a ring. Refuses: the loop's without those of normals, cap and insides, which it does not read; ROOM where out
    is shorter than that many triangles; NO_EAR. */
 uint32_t desk_triangles(const uint8_t *loop, size_t loop_len, uint8_t *out, size_t out_len);
-
-/* The same, with DESK_CLOSE added where a test taken for one of the cuts is close; answer % DESK_CLOSE is how many
-   triangles were written. Empty and full are clear. It takes longer: each cut is looked for again. */
-uint32_t desk_triangles_close(const uint8_t *loop, size_t loop_len, uint8_t *out, size_t out_len);
 
 /* DESK_NO or DESK_YES: whether the triangles are cuts of this ring, each at an eligible ear, the last the ring left.
    Refuses: SHAPE where the triangles are not in sixes; the loop's as desk_triangles does; NO_RING. */
@@ -239,13 +219,6 @@ uint32_t desk_arc_intersection_long(const uint8_t *a, size_t a_len, const uint8_
 uint32_t desk_arc_relate_long(const uint8_t *a, size_t a_len, const uint8_t *b, size_t b_len, uint8_t *out,
                               size_t out_len);
 
-/* desk_arc_relate and desk_arc_relate_long, with DESK_CLOSE added where a test that was taken, of a point against an end
-   of an arc, is close. */
-uint32_t desk_arc_relate_close(const uint8_t *a, size_t a_len, const uint8_t *b, size_t b_len, uint8_t *out,
-                               size_t out_len);
-uint32_t desk_arc_relate_long_close(const uint8_t *a, size_t a_len, const uint8_t *b, size_t b_len, uint8_t *out,
-                                    size_t out_len);
-
 /* ---- how far
    A SQUARED CHORD is what these write: the square of the straight line from a position to the nearest point, on a sphere of
    radius 1, from 0.0 to 4.0. It is neither a length nor an angle, but less is nearer. desk_radians makes it the angle at
@@ -278,9 +251,6 @@ uint32_t desk_build_long_f64(const double *list, size_t list_len, uint8_t *heade
 uint32_t desk_place_f64(const uint8_t *header, size_t header_len, const double *positions, size_t positions_len,
                         const double *normals, size_t normals_len, const uint8_t *classes, size_t classes_len,
                         double x, double y, double z);
-uint32_t desk_place_close_f64(const uint8_t *header, size_t header_len, const double *positions, size_t positions_len,
-                              const double *normals, size_t normals_len, const uint8_t *classes, size_t classes_len,
-                              double x, double y, double z);
 uint32_t desk_pair_f64(const uint8_t *header, size_t header_len, const double *positions, size_t positions_len,
                        const double *normals, size_t normals_len, const uint8_t *classes, size_t classes_len,
                        const uint8_t *other_header, size_t other_header_len, const double *other_positions,

@@ -81,17 +81,15 @@ static int build(const char *name, Area *area, const double *list, size_t n) {
     return build_by(desk_build, name, area, list, n);
 }
 
-/* Where a position lies, as desk_place tells it, and the word beside it. */
 static void place(const char *name, const Area *area, double x, double y, double z) {
     static const char *const words[] = {"outside", "inside", "mute: the area cannot tell"};
     const double p[3] = {x, y, z};
     uint8_t bytes[DESK_POSITION_BYTES];
     uint32_t answer;
     put_floats(bytes, p, 3);
-    answer = desk_place_close(area->bytes, area->size, bytes, sizeof bytes);
+    answer = desk_place(area->bytes, area->size, bytes, sizeof bytes);
     if (!refused(name, answer))
-        printf("%s: (%g, %g, %g) is %s (%s)\n", name, x, y, z, words[answer % DESK_CLOSE],
-               answer & DESK_CLOSE ? "close: a last digit decided" : "clear");
+        printf("%s: (%g, %g, %g) is %s\n", name, x, y, z, words[answer]);
 }
 
 /* A little-endian number of 64 bits. */

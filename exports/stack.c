@@ -82,7 +82,7 @@ static uint32_t run_scene(void) {
 #define PARTS(l) (l).header, DESK_HEADER_BYTES, (l).positions, DESK_LIST_FLOATS(N), (l).normals, DESK_LIST_FLOATS(N), (l).classes, N
 
 /* The calls by number: none of them is refused. */
-#define SCENE 43
+#define SCENE 38
 static uint32_t call(int which) {
     switch (which) {
     case 0: return desk_build(BYTES(a.list), DESK_LIST_BYTES(N), WHOLE(a));
@@ -123,18 +123,13 @@ static uint32_t call(int which) {
     case 35: return desk_simple(WHOLE(a));
     case 36: return desk_arc_intersection_long(arc, sizeof arc, other, sizeof other, out, sizeof out);
     case 37: return desk_arc_relate_long(arc, sizeof arc, other, sizeof other, out, sizeof out);
-    case 38: return desk_place_close(WHOLE(a), BYTES(b.list), DESK_POSITION_BYTES);
-    case 39: return desk_place_close_f64(PARTS(a), b.list[0], b.list[1], b.list[2]);
-    case 40: return desk_triangles_close(WHOLE(a), triangles, sizeof triangles);
-    case 41: return desk_arc_relate_close(arc, sizeof arc, other, sizeof other, out, sizeof out);
-    case 42: return desk_arc_relate_long_close(arc, sizeof arc, other, sizeof other, out, sizeof out);
     case SCENE: return run_scene();
-    case 44: return (uint32_t)(desk_root(0x4000000000000000u) >> 32);
-    case 45: return (uint32_t)(desk_radians(0x3ff0000000000000u) >> 32);
+    case 39: return (uint32_t)(desk_root(0x4000000000000000u) >> 32);
+    case 40: return (uint32_t)(desk_radians(0x3ff0000000000000u) >> 32);
     default: return (uint32_t)(desk_atan2(0x4000000000000000u, 0x3ff0000000000000u) >> 32);
     }
 }
-#define CALLS 47
+#define CALLS 42
 
 int main(void) {
     size_t most = 0, of_scene = 0;

@@ -1,6 +1,6 @@
 /* Calls one export N times on one loop, for oracle/count: count EXPORT SHAPE CORNERS TIMES MODE. What is built, placed, measured, paired or cut is a convex
    polygon or a star round one centre; the pair is the same loop a little smaller, so that every edge is compared. In long mode, MODE `long`, it is the same
-   loop with the mark of that mode. The calls with the word print the answer with its mark. */
+   loop with the mark of that mode. */
 #include "../exports/desk.h"
 #include <math.h>
 #include <stdio.h>
@@ -67,12 +67,6 @@ int main(int argc, char **argv) {
             r = desk_pair(a.bytes, a.size, b.bytes, b.size);
         else if (!strcmp(argv[1], "desk_triangles"))
             r = desk_triangles(a.bytes, a.size, (uint8_t *)triangles, sizeof triangles);
-        else if (!strcmp(argv[1], "desk_place_close"))
-            r = desk_place_close(a.bytes, a.size, (uint8_t *)centre, 24);
-        else if (!strcmp(argv[1], "desk_place_close_f64"))
-            r = desk_place_close_f64(a.header, 88, a.positions, 3 * n, a.normals, 3 * n, a.classes, n, centre[0], centre[1], centre[2]);
-        else if (!strcmp(argv[1], "desk_triangles_close"))
-            r = desk_triangles_close(a.bytes, a.size, (uint8_t *)triangles, sizeof triangles);
         else if (!strcmp(argv[1], "desk_build_f64"))
             r = build(&a);
         else if (!strcmp(argv[1], "desk_place_f64"))

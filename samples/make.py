@@ -54,8 +54,6 @@ FULL = [X, (0.6, 0.8, 0.0), Y]
 EIGHT = [unit(1, 0.5, 0.5), unit(1, -0.5, -0.5), unit(1, -0.5, 0.5), unit(1, 0.5, -0.5)]
 STAR = [unit(r * math.cos(k * math.pi / 5), r * math.sin(k * math.pi / 5), 1) for k in range(10) for r in [0.5 if k % 2 else 0.1]]
 BESIDE = [unit(a + 0.3, b, 1) for a, b in ((-0.4, -0.4), (0.4, -0.4), (0.4, 0.4), (-0.4, 0.4))]
-# the first triangle that is cut has its mean on the great circle through the first corner and the notch
-NOTCHED = [(0.6, 0.0, 0.8), (0.0, -0.6, 0.8), (-0.48, -0.36, 0.8), (-0.28, 0.0, 0.96), (-0.48, 0.36, 0.8), (0.0, 0.6, 0.8)]
 # rings at corners of cubes, with and without insides, some of which run out of ears
 D, T = 0.7071067811865475, 0.5773502691896258
 MUTES = [
@@ -71,8 +69,6 @@ SEVEN = area(1, [(-0.8, 0.0, -0.6), X, (0.64, -0.48, 0.6)]) + area(2, [(0.0, -1.
 LONGEST = A + join(place(1, unit(1, 1, 1)) for _ in range(2043)) + join(pair(1, 1) for _ in range(8))
 assert len(LONGEST) == 65536
 SIXTEEN = join(area(k, []) for k in range(1, 17))
-# a side test's product is small up to 10 * 2^-52
-SMALL, NEXT = 10 * 2.0**-52, 11 * 2.0**-52
 # A has three of the 1,024 positions
 TOO_MANY = [NAN] * 1022
 
@@ -188,14 +184,6 @@ scenes = [
     ('1,024 positions: fars do not count', area(1, [X] * 512) + area(2, [X] * 511) + far(1, X) + far(2, X) + area(3, [X]) + far(3, Y)),
     ('kind 5, of a length that a far has', A + record(5, b'\x01\x00' + position(Z))),
     ('kind 260', A + record(260, b'\x01\x00' + position(Z))),
-    # which test decided a place (SCOPE 62)
-    ('clear or close, three corners: well inside, beside a side, on it, beyond it, at a corner', A
-     + join(place(1, p) for p in ((0.48, 0.6, 0.64), (0.6, 0.8, NEXT), (0.6, 0.8, SMALL), (0.6, 0.8, 0.0), (0.6, 0.8, -SMALL), (0.6, 0.8, -NEXT), X, W))),
-    ('clear: a mute, an empty and a full area, at a corner of theirs too', area(1, MUTES[0]) + area(2, [X, Y]) + area(3, FULL)
-     + join(place(n, p) for n in (1, 2, 3) for p in (Y, unit(1, 2, 3)))),
-    ('clear or close, above three: within, at corners, beyond the cap, on the ray through a notch',
-     area(1, SQUARE) + area(2, NOTCHED) + join(place(1, p) for p in (Z, SQUARE[0], SQUARE[2], (0.8, 0.0, 0.6), X))
-     + join(place(2, p) for p in (Z, NOTCHED[3], unit(-0.4, 0, 1), unit(-0.4, 0.01, 1), (-0.8, 0.0, 0.6)))),
 ]
 
 

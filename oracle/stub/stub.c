@@ -14,9 +14,7 @@ typedef unsigned char u8;
     X(desk_arc_side) X(desk_arc_contains) X(desk_arc_intersection) X(desk_arc_relate) X(desk_build_f64)                \
     X(desk_place_f64) X(desk_pair_f64) X(desk_triangles_f64) X(desk_full_positions) X(leaf_vec) X(leaf_number)         \
     X(leaf_case) X(leaf_cap) X(desk_scene) X(desk_radians) X(desk_far) X(desk_arc_far) X(desk_far_f64)                 \
-    X(desk_build_long) X(desk_build_long_f64) X(desk_arc_intersection_long) X(desk_arc_relate_long)                    \
-    X(desk_place_close) X(desk_place_close_f64) X(desk_arc_relate_close) X(desk_arc_relate_long_close)                 \
-    X(desk_triangles_close)
+    X(desk_build_long) X(desk_build_long_f64) X(desk_arc_intersection_long) X(desk_arc_relate_long)
 
 // Weak, so that an export which is not there yet is a null pointer.
 #define DECLARE(name) extern u64 name(void) __attribute__((weak));

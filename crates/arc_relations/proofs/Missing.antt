@@ -6,9 +6,7 @@ use Rattle.vec3.specs.Vec.{origin, same, stable_unit}
 use Rattle.minor_arc.specs.declared.MinorArc.{MinorArc}
 use Rattle.minor_arc.specs.declared.Mode.{Mode}
 use Rattle.minor_arc.specs.Arcs.{missed, meeting_of}
-use Rattle.minor_arc.specs.Close.{skipped}
 use Rattle.minor_arc.proofs.Missing.{missed_apart}
-use Rattle.minor_arc.proofs.Skips.{skipped_missed}
 use Rattle.arc_relations.specs.declared.MinorArcRelation.TheVariants.{Disjoint}
 use Rattle.arc_relations.specs.Relations.{relation_of}
 
@@ -16,7 +14,3 @@ module _ (mode : Mode) (a b : MinorArc) {i : Vec3} (e : i ≡ stable_unit a.norm
   pub missed_disjoint : missed mode a i ≡ true → same i origin ≡ false → Disjoint ≡ relation_of mode a b
   unfolding meeting_of relation_of
   missed_disjoint h o = rw (← e, o, missed_apart mode a b e h)
-
-  -- what is passed over is missed
-  pub skipped_disjoint : skipped mode a i ≡ true → same i origin ≡ false → Disjoint ≡ relation_of mode a b
-  skipped_disjoint h o = missed_disjoint (skipped_missed mode a b e h) o

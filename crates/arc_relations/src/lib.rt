@@ -2,7 +2,6 @@
 ghost use Rattle.std.specs.Prelude.{◌≡◌};
 ghost use Rattle.vec3.specs.Vec.{stable_unit};
 ghost use Rattle.arc_relations.specs.Relations as Relations;
-ghost use Rattle.arc_relations.specs.Close as Close;
 
 use minor_arc::{Meeting, MinorArc, Mode};
 use vec3::Vec3;
@@ -16,26 +15,12 @@ pub enum MinorArcRelation {
     Overlapping(MinorArc),
 }
 
-// The same, and whether a side test taken for it needed the retest.
-#[derive(Drop)]
-pub struct Related {
-    pub relation: MinorArcRelation,
-    pub close: bool,
-}
-
 // At most two different points.
 #[derive(Drop)]
 pub enum Found {
     None,
     One(Vec3),
     Two(Vec3, Vec3),
-}
-
-// The same, and whether a side test taken for them needed the retest.
-#[derive(Drop)]
-pub struct Finding {
-    pub found: Found,
-    pub close: bool,
 }
 
 // One candidate more: the first two that differ are kept.
@@ -54,20 +39,13 @@ fn push(f: Found, v: Vec3) -> Found
 }
 
 // The candidate v, if it is on the arc a.
-fn consider(a: MinorArc, f: Finding, v: Vec3) -> Finding
-    ensures { result ≡ Close.finding_of f a v }
+fn consider(a: MinorArc, f: Found, v: Vec3) -> Found
+    ensures { result ≡ Relations.considered f a v }
 {
-    let l = a.located(v);
-    let location = l.location;
-    let found = f.found;
-    let close = f.close | l.close;
-    if minor_arc::is_within(location) {
-        Finding {
-            found: push(found, v),
-            close,
-        }
+    if minor_arc::is_within(a.location(v)) {
+        push(f, v)
     } else {
-        Finding { found, close }
+        f
     }
 }
 
@@ -101,61 +79,31 @@ fn shared(a: MinorArc, f: Found) -> MinorArcRelation
     }
 }
 
-// Each end of what two arcs of one great circle share is one of their four ends: all four are asked.
-fn relate_collinear(a: MinorArc, o: MinorArc) -> Related
-    ensures { result ≡ record { relation = Relations.collinear_of a o; close = Close.close_collinear a o } }
+// Each end of what two arcs of one great circle share is one of their four ends.
+fn relate_collinear(a: MinorArc, o: MinorArc) -> MinorArcRelation
+    ensures { result ≡ Relations.collinear_of a o }
 {
-    let none = Finding {
-        found: Found::None,
-        close: false,
-    };
-    let f = consider(a, none, o.start);
+    let f = consider(a, Found::None, o.start);
     let g = consider(a, f, o.end);
     let h = consider(o, g, a.start);
-    let k = consider(o, h, a.end);
-    let found = k.found;
-    Related {
-        relation: shared(a, found),
-        close: k.close,
-    }
+    shared(a, consider(o, h, a.end))
 }
 
 // `relate` with the unit vector of the normals' product at hand.
-fn related_at(mode: Mode, a: MinorArc, o: MinorArc, i: Vec3) -> Related
-    requires { i ≡ stable_unit a.normal o.normal }
-    ensures { result ≡ Close.related_of mode a o }
-{
-    let e = a.encounter_at(mode, o, i);
-    let m = e.meeting;
-    let close = e.close;
-    match m {
-        Meeting::Apart => Related {
-            relation: MinorArcRelation::Disjoint,
-            close,
-        },
-        Meeting::Collinear => relate_collinear(a, o),
-        Meeting::Crossing(p) => Related {
-            relation: MinorArcRelation::Intersecting(p),
-            close,
-        },
-        Meeting::Touching(p) => Related {
-            relation: MinorArcRelation::Touching(p),
-            close,
-        },
-    }
-}
-
-// Its relation alone.
 pub fn relate_at(mode: Mode, a: MinorArc, o: MinorArc, i: Vec3) -> MinorArcRelation
     requires { i ≡ stable_unit a.normal o.normal }
     ensures { result ≡ Relations.relation_of mode a o }
 {
-    let r = related_at(mode, a, o, i);
-    r.relation
+    match a.meeting_at(mode, o, i) {
+        Meeting::Apart => MinorArcRelation::Disjoint,
+        Meeting::Collinear => relate_collinear(a, o),
+        Meeting::Crossing(p) => MinorArcRelation::Intersecting(p),
+        Meeting::Touching(p) => MinorArcRelation::Touching(p),
+    }
 }
 
-pub fn relate(mode: Mode, a: MinorArc, o: MinorArc) -> Related
-    ensures { result ≡ Close.related_of mode a o }
+pub fn relate(mode: Mode, a: MinorArc, o: MinorArc) -> MinorArcRelation
+    ensures { result ≡ Relations.relation_of mode a o }
 {
-    related_at(mode, a, o, a.normal.stable_cross_prod_unit(o.normal))
+    relate_at(mode, a, o, a.normal.stable_cross_prod_unit(o.normal))
 }

@@ -1,6 +1,6 @@
 -- Each refusal of the six functions on arcs is given exactly when SCOPE 25 says, in the order of SCOPE 26: both directions. Assumes nothing.
 use Prim.Native.Nat.{ℕ, suc}
-use mathlib.Core.Path.{◌≡◌, refl, ap, ◌∙◌}
+use mathlib.Core.Path.{◌≡◌, refl}
 use mathlib.Core.Bool.{Bool, true, false}
 use Rattle.laws.specs.Loop.{first}
 use Rattle.vec3.specs.declared.Vec3.{Vec3}
@@ -9,7 +9,6 @@ use Rattle.vec3.specs.declared.Point.TheVariants.{Absent, At}
 use Rattle.vec3.specs.Vec.{cleared}
 use Rattle.base.specs.declared.Side.{Side}
 use Rattle.base.specs.declared.Side.TheVariants.{Left, Right, Collinear}
-use Rattle.base.specs.declared.Decided.{Decided}
 use Rattle.judge.specs.Judge.{fault_of}
 use Rattle.judge.specs.Why.{Exactly, Refuses}
 use Rattle.judge.proofs.Exactly.{then_exact, refuses}
@@ -21,9 +20,6 @@ use Rattle.arc_relations.specs.declared.MinorArcRelation.TheVariants.{Disjoint, 
 use Rattle.arc_relations.specs.Relations.{relation_of}
 use Rattle.arcs.specs.Answers.{Told, refused, answer, clearedArc, arcFault, query_fault, pair_fault, judged, side_told, boolTold, pointTold, relationTold}
 use Rattle.arcs.specs.Answers.{newTold, opposite_told, sideOfTold, contains_told, intersection_told, relate_told}
-use Rattle.arcs.specs.Words.{Worded, worded, forget}
-use Rattle.arcs.specs.Words as W
-use Rattle.arcs.proofs.Words.{forgets}
 use Rattle.arcs.specs.Why.{EndsWhy, ArcWhy, QueryWhy, PairWhy, Exact}
 
 -- ---- what is judged
@@ -67,10 +63,6 @@ relation_answers (Overlapping a) = refl
 judged_exact : {given : ℕ} {Why : ℕ → Type 0} → Exactly given Why → (t : Told) → number t ≡ 0 → Refuses refused (judged given t) Why
 judged_exact x t n = refuses refused number (λ k. refl) x (λ z. rw z n) (λ k e. rw e)
 
--- the word changes nothing of it
-worded_exact : {given : ℕ} {Why : ℕ → Type 0} → Exactly given Why → (t : Told) (d : Decided) → number t ≡ 0 → Refuses W.refused (worded (judged given t) d) Why
-worded_exact x t d n = refuses W.refused (λ (w : Worded). number (forget w)) (λ k. refl) x (λ z. rw z (ap number (forgets t d) ∙ n)) (λ k e. rw e)
-
 pub exact : Exact
 unfolding newTold opposite_told sideOfTold contains_told intersection_told relate_told
 exact = record {
@@ -79,5 +71,5 @@ exact = record {
   side = λ a p. judged_exact (query_exact (clearedArc a) (cleared p)) _ (side_answers (arc_side (clearedArc a) (cleared p)));
   contains = λ a p. judged_exact (query_exact (clearedArc a) (cleared p)) _ (bool_answers (on_arc (clearedArc a) (cleared p)));
   intersection = λ mode a b. judged_exact (pair_exact (clearedArc a) (clearedArc b)) _ (point_answers (meeting_point (meeting_of mode (clearedArc a) (clearedArc b))));
-  relate = λ mode a b. worded_exact (pair_exact (clearedArc a) (clearedArc b)) _ _ (relation_answers (relation_of mode (clearedArc a) (clearedArc b)));
+  relate = λ mode a b. judged_exact (pair_exact (clearedArc a) (clearedArc b)) _ (relation_answers (relation_of mode (clearedArc a) (clearedArc b)));
 }

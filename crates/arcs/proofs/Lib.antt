@@ -1,4 +1,3 @@
 pub mod Judged
-pub mod Words
 pub mod Unique
 pub mod Exact

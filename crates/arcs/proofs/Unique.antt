@@ -1,5 +1,5 @@
--- The number and values of an answer, and of a relation its word, tell it from every other (SCOPE 27), and so each contract leaves one: over the functions'
--- own postconditions, so that an `ensures` that says less breaks this. Assumes nothing.
+-- The number and values of an answer tell it from every other (SCOPE 27), and so each contract leaves one: over the functions' own postconditions, so that an
+-- `ensures` that says less breaks this. Assumes nothing.
 use mathlib.Core.Path.{◌≡◌, refl, sym, ◌∙◌}
 use Prim.Native.Nat.{zero, suc}
 use lib.IntN.{pos, negsuc}
@@ -22,11 +22,9 @@ use Rattle.arcs.proofs.side_of as SideOf
 use Rattle.arcs.proofs.contains_position as Contains
 use Rattle.arcs.proofs.intersection as Intersection
 use Rattle.arcs.proofs.relate as Relate
-use Rattle.arcs.specs.Answers.{Told, refused, answer, toldMade, toldSided, toldContained, toldMet}
-use Rattle.arcs.specs.Words.{Worded, worded_related}
-use Rattle.arcs.specs.Words as W
+use Rattle.arcs.specs.Answers.{Told, refused, answer, toldMade, toldSided, toldContained, toldMet, told_related}
 
--- ---- from the number and values, and of a relation the word, back to the answer
+-- ---- from the number and values back to the answer
 abbrev back_made : Told → ArcMade
 back_made (refused n) = Made.Refused n
 back_made (answer n (a ∷ b ∷ c ∷ vs)) = Made.Arc (record { start = a; end = b; normal = c })
@@ -71,23 +69,23 @@ met_back (Met.Refused n) = refl
 met_back Met.Nowhere = refl
 met_back (Met.At p) = refl
 
-abbrev back_related : Worded → ArcRelated
-back_related (W.refused n) = Related.Refused n
-back_related (W.answer (negsuc n) vs d) = Related.Disjoint d
-back_related (W.answer (pos n) [] d) = Related.Disjoint d
-back_related (W.answer (pos zero) (p ∷ vs) d) = Related.Disjoint d
-back_related (W.answer (pos (suc zero)) (p ∷ vs) d) = Related.Intersecting p d
-back_related (W.answer (pos (suc (suc zero))) (p ∷ vs) d) = Related.Touching p d
-back_related (W.answer (pos (suc (suc (suc n)))) (a ∷ []) d) = Related.Disjoint d
-back_related (W.answer (pos (suc (suc (suc n)))) (a ∷ b ∷ []) d) = Related.Disjoint d
-back_related (W.answer (pos (suc (suc (suc n)))) (a ∷ b ∷ c ∷ vs) d) = Related.Overlapping (record { start = a; end = b; normal = c }) d
+abbrev back_related : Told → ArcRelated
+back_related (refused n) = Related.Refused n
+back_related (answer (negsuc n) vs) = Related.Disjoint
+back_related (answer (pos n) []) = Related.Disjoint
+back_related (answer (pos zero) (p ∷ vs)) = Related.Disjoint
+back_related (answer (pos (suc zero)) (p ∷ vs)) = Related.Intersecting p
+back_related (answer (pos (suc (suc zero))) (p ∷ vs)) = Related.Touching p
+back_related (answer (pos (suc (suc (suc n)))) (a ∷ [])) = Related.Disjoint
+back_related (answer (pos (suc (suc (suc n)))) (a ∷ b ∷ [])) = Related.Disjoint
+back_related (answer (pos (suc (suc (suc n)))) (a ∷ b ∷ c ∷ vs)) = Related.Overlapping (record { start = a; end = b; normal = c })
 
-related_back : (x : ArcRelated) → back_related (worded_related x) ≡ x
+related_back : (x : ArcRelated) → back_related (told_related x) ≡ x
 related_back (Related.Refused n) = refl
-related_back (Related.Disjoint d) = refl
-related_back (Related.Intersecting p d) = refl
-related_back (Related.Touching p d) = refl
-related_back (Related.Overlapping a d) = refl
+related_back Related.Disjoint = refl
+related_back (Related.Intersecting p) = refl
+related_back (Related.Touching p) = refl
+related_back (Related.Overlapping a) = refl
 
 -- ---- so two answers that are told alike are one
 pub one_made : OneToOne toldMade
@@ -102,8 +100,8 @@ one_contained = by_back toldContained back_contained contained_back
 pub one_met : OneToOne toldMet
 one_met = by_back toldMet back_met met_back
 
-pub one_related : OneToOne worded_related
-one_related = by_back worded_related back_related related_back
+pub one_related : OneToOne told_related
+one_related = by_back told_related back_related related_back
 
 -- ---- and each function's contract leaves one: nothing is lent to be written, so the answer is all
 pub new_unique : One New.Kinds.ps New.Kinds.r New.Reads.Post

@@ -57,10 +57,10 @@ toldMet (Met.At p) = answer (pos 1) (p ∷ [])
 
 abbrev pub toldRelated : ArcRelated → Told
 toldRelated (Related.Refused n) = refused n
-toldRelated (Related.Disjoint d) = answer (pos 0) []
-toldRelated (Related.Intersecting p d) = answer (pos 1) (p ∷ [])
-toldRelated (Related.Touching p d) = answer (pos 2) (p ∷ [])
-toldRelated (Related.Overlapping a d) = answer (pos 3) (vectors a)
+toldRelated Related.Disjoint = answer (pos 0) []
+toldRelated (Related.Intersecting p) = answer (pos 1) (p ∷ [])
+toldRelated (Related.Touching p) = answer (pos 2) (p ∷ [])
+toldRelated (Related.Overlapping a) = answer (pos 3) (vectors a)
 
 -- ---- what is handed in. SCOPE 3: free of -0.0
 abbrev pub clearedArc : MinorArc → MinorArc

@@ -5,9 +5,7 @@ use Rattle.vec3.specs.Vec.{cleared}
 use Rattle.judge.specs.Why.{Refuses, Then, VectorWhy, PositionWhy}
 use Rattle.minor_arc.specs.declared.MinorArc.{MinorArc}
 use Rattle.minor_arc.specs.declared.Mode.{Mode}
-use Rattle.arcs.specs.Answers.{refused, clearedArc, newAnswer, oppositeAnswer, side_answer, containsAnswer, intersectionAnswer}
-use Rattle.arcs.specs.Words.{relate_worded}
-use Rattle.arcs.specs.Words as W
+use Rattle.arcs.specs.Answers.{refused, clearedArc, newAnswer, oppositeAnswer, side_answer, containsAnswer, intersectionAnswer, relate_answer}
 
 -- the two ends of an arc, one by one, 3 before 4 for each
 abbrev pub EndsWhy : Vec3 → Vec3 → ℕ → Type 0
@@ -32,4 +30,4 @@ pub record Exact : Type 0 where
   pub side : (a : MinorArc) (p : Vec3) → Refuses refused (side_answer a p) (QueryWhy (clearedArc a) (cleared p))
   pub contains : (a : MinorArc) (p : Vec3) → Refuses refused (containsAnswer a p) (QueryWhy (clearedArc a) (cleared p))
   pub intersection : (mode : Mode) (a b : MinorArc) → Refuses refused (intersectionAnswer mode a b) (PairWhy (clearedArc a) (clearedArc b))
-  pub relate : (mode : Mode) (a b : MinorArc) → Refuses W.refused (relate_worded mode a b) (PairWhy (clearedArc a) (clearedArc b))
+  pub relate : (mode : Mode) (a b : MinorArc) → Refuses refused (relate_answer mode a b) (PairWhy (clearedArc a) (clearedArc b))

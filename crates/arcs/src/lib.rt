@@ -1,12 +1,10 @@
 // The desk's six functions on arcs. They take whatever is handed in: each position and normal is made free of -0.0 and judged, an arc's start, end and
 // normal in this order, the first arc before the second, both before the query. Then they answer.
 ghost use Rattle.std.specs.Prelude.{◌≡◌};
-ghost use Rattle.base.specs.Close.{decided};
 ghost use Rattle.arcs.specs.Answers as Answers;
-ghost use Rattle.arcs.specs.Words as Words;
 
-use arc_relations::{MinorArcRelation, Related};
-use base::{Decided, Side};
+use arc_relations::MinorArcRelation;
+use base::Side;
 use minor_arc::{MinorArc, Mode};
 use vec3::{Point, Vec3};
 
@@ -38,14 +36,13 @@ pub enum Met {
     At(Vec3),
 }
 
-// How two arcs relate, with the test that decided it.
 #[derive(Drop)]
 pub enum ArcRelated {
     Refused(u8),
-    Disjoint(Decided),
-    Intersecting(Vec3, Decided),
-    Touching(Vec3, Decided),
-    Overlapping(MinorArc, Decided),
+    Disjoint,
+    Intersecting(Vec3),
+    Touching(Vec3),
+    Overlapping(MinorArc),
 }
 
 // An arc as it is read: free of -0.0.
@@ -106,16 +103,14 @@ fn tell_point(p: Point) -> Met
     }
 }
 
-fn tell_relation(r: Related) -> ArcRelated
-    ensures { Words.worded_related result ≡ Words.worded (Answers.relationTold r.relation) (decided r.close) }
+fn tell_relation(r: MinorArcRelation) -> ArcRelated
+    ensures { Answers.told_related result ≡ Answers.relationTold r }
 {
-    let by = base::decided_by(r.close);
-    let relation = r.relation;
-    match relation {
-        MinorArcRelation::Disjoint => ArcRelated::Disjoint(by),
-        MinorArcRelation::Intersecting(p) => ArcRelated::Intersecting(p, by),
-        MinorArcRelation::Touching(p) => ArcRelated::Touching(p, by),
-        MinorArcRelation::Overlapping(a) => ArcRelated::Overlapping(a, by),
+    match r {
+        MinorArcRelation::Disjoint => ArcRelated::Disjoint,
+        MinorArcRelation::Intersecting(p) => ArcRelated::Intersecting(p),
+        MinorArcRelation::Touching(p) => ArcRelated::Touching(p),
+        MinorArcRelation::Overlapping(a) => ArcRelated::Overlapping(a),
     }
 }
 
@@ -179,7 +174,7 @@ pub fn intersection(mode: Mode, a: MinorArc, b: MinorArc) -> Met
 }
 
 pub fn relate(mode: Mode, a: MinorArc, b: MinorArc) -> ArcRelated
-    ensures { Words.worded_related result ≡ Words.relate_worded mode a b }
+    ensures { Answers.told_related result ≡ Answers.relate_answer mode a b }
 {
     let one = clear_arc(a);
     let other = clear_arc(b);

@@ -1,6 +1,6 @@
 -- SCOPE 5: the side of v0 against the great circle from v1 to v2, by the sign of t = v0·(v1 × v2); where |t| is at most 10·2^-52, that limit included, by
 -- v0·`orthogonal_to`(v1, v2). Above 0 is left. Definitions only.
-use Rattle.std.specs.Prelude.{ℤ, pos, negsuc, Bool, true, false, not, ◌&&◌, Float}
+use Rattle.std.specs.Prelude.{ℤ, pos, negsuc, Bool, not, ◌&&◌, Float}
 use Rattle.std.specs.Float.Ieee.{lt, le}
 use Rattle.numbers.specs.Choice.{if◌then◌else◌}
 use Rattle.numbers.specs.F64.{zero, ten_epsilon}
@@ -16,11 +16,6 @@ side_code Right = negsuc 0
 side_code Collinear = pos 0
 side_code Left = pos 1
 
-abbrev pub is_right : Side → Bool
-is_right Left = false
-is_right Right = true
-is_right Collinear = false
-
 unfoldable pub sign_of : Float → Side
 sign_of t = if lt zero t then Left else Right
 
@@ -29,21 +24,17 @@ retest_of v0 v1 v2 =
     let s = dot v0 (orthogonal_to v1 v2) in
     if near s zero then Collinear else sign_of s
 
--- a product of at most 10·2^-52 in size: its sign is not trusted. A NaN is not small
-abbrev pub small : Float → Bool
-small t = le (abs t) ten_epsilon
-
 unfoldable pub side_of : Vec3 → Vec3 → Vec3 → Side
 side_of v0 v1 v2 =
     let t = dot v0 (cross v1 v2) in
-    if small t then retest_of v0 v1 v2 else sign_of t
+    if le (abs t) ten_epsilon then retest_of v0 v1 v2 else sign_of t
 
 -- the triple product t decides alone, for right and for left
 abbrev pub settles_right : Float → Bool
-settles_right t = not (small t) && not (lt zero t)
+settles_right t = not (le (abs t) ten_epsilon) && not (lt zero t)
 
 abbrev pub settles_left : Float → Bool
-settles_left t = not (small t) && lt zero t
+settles_left t = not (le (abs t) ten_epsilon) && lt zero t
 
 -- right by the product with a normal alone, so that no second test is asked
 unfoldable pub surely_right : Vec3 → Vec3 → Bool

@@ -1,7 +1,6 @@
 // The side of a position against a great circle, and the turning angle, as spherical/base.rs has them. Total on every float.
 ghost use Rattle.std.specs.Prelude.{◌≡◌};
-ghost use Rattle.base.specs.Sides.{sign_of, is_right, retest_of, side_of, small, surely_right};
-ghost use Rattle.base.specs.Close.{is_retest, decided, test_of};
+ghost use Rattle.base.specs.Sides.{sign_of, retest_of, side_of, settles_right, settles_left, surely_right};
 ghost use Rattle.base.specs.Turns.{sine_of, turning_angle};
 
 use angle::Angle;
@@ -15,56 +14,6 @@ pub enum Side {
     Left,
     Right,
     Collinear,
-}
-
-// Which of the two tests of a side decided it.
-#[derive(Drop)]
-pub enum Decided {
-    First,
-    Retest,
-}
-
-// A side, and by which test.
-#[derive(Drop)]
-pub struct Tested {
-    pub side: Side,
-    pub by: Decided,
-}
-
-pub fn is_right(s: Side) -> bool
-    ensures { result ≡ is_right s }
-{
-    match s {
-        Side::Left => false,
-        Side::Right => true,
-        Side::Collinear => false,
-    }
-}
-
-pub fn is_retest(d: Decided) -> bool
-    ensures { result ≡ is_retest d }
-{
-    match d {
-        Decided::First => false,
-        Decided::Retest => true,
-    }
-}
-
-pub fn decided_by(close: bool) -> Decided
-    ensures { result ≡ decided close }
-{
-    if close {
-        Decided::Retest
-    } else {
-        Decided::First
-    }
-}
-
-// Whether a product is so small that its sign is not trusted.
-pub fn is_small(t: f64) -> bool
-    ensures { result ≡ small t }
-{
-    numbers::abs(t) <= TRIAGE_SIDE_EPS
 }
 
 fn by_sign(t: f64) -> Side
@@ -85,38 +34,37 @@ fn retest(v0: Vec3, v1: Vec3, v2: Vec3) -> Side
     }
 }
 
-// Whether v0 is left of, right of or on the great circle from v1 to v2, and which test decided.
-pub fn side_test(v0: Vec3, v1: Vec3, v2: Vec3) -> Tested
-    ensures { result ≡ test_of v0 v1 v2 }
-{
-    let t = v0.dot_prod(v1.cross_prod(v2));
-    if is_small(t) {
-        Tested {
-            side: retest(v0, v1, v2),
-            by: Decided::Retest,
-        }
-    } else {
-        Tested {
-            side: by_sign(t),
-            by: Decided::First,
-        }
-    }
-}
-
-// The side alone.
+// Whether v0 is left of, right of or on the great circle from v1 to v2.
 pub fn side_of(v0: Vec3, v1: Vec3, v2: Vec3) -> Side
     ensures { result ≡ side_of v0 v1 v2 }
 {
-    let t = side_test(v0, v1, v2);
-    t.side
+    let t = v0.dot_prod(v1.cross_prod(v2));
+    if numbers::abs(t) <= TRIAGE_SIDE_EPS {
+        retest(v0, v1, v2)
+    } else {
+        by_sign(t)
+    }
+}
+
+// Whether a triple product settles its side alone, and that is right.
+pub fn settles_right(t: f64) -> bool
+    ensures { result ≡ settles_right t }
+{
+    !(numbers::abs(t) <= TRIAGE_SIDE_EPS) & !(t > 0.0)
+}
+
+// Whether it does, and that is left.
+pub fn settles_left(t: f64) -> bool
+    ensures { result ≡ settles_left t }
+{
+    !(numbers::abs(t) <= TRIAGE_SIDE_EPS) & (t > 0.0)
 }
 
 // Whether v0 is right of the great circle with this normal by the first test of `side_of` alone. A normal is worked out once for many positions.
 pub fn is_surely_right(v0: Vec3, normal: Vec3) -> bool
     ensures { result ≡ surely_right v0 normal }
 {
-    let t = v0.dot_prod(normal);
-    !is_small(t) & !(t > 0.0)
+    settles_right(v0.dot_prod(normal))
 }
 
 // The sine of the angle from v1 to v2 times their lengths: the length of their cross product, negative where that points away from vn.

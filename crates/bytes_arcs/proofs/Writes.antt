@@ -1,7 +1,6 @@
 -- What a call leaves: a refusal and the buffer as it was, or an answer and its bytes. Assumes nothing.
 use Prim.Native.Nat.{ℕ, ◌*◌, ◌≤◌, ◌<◌}
-use mathlib.Core.Path.{◌≡◌, sym, ap, ◌∙◌}
-use mathlib.Core.Bool.{Bool, true, false}
+use mathlib.Core.Path.{◌≡◌, sym, ◌∙◌}
 use mathlib.Core.List.{List, [], ◌∷◌, append_assoc, append-nil}
 use native.Mathlib.Omega.{arith}
 use lib.IntN.{pos}
@@ -10,18 +9,15 @@ use lib.Seq.{sets}
 use borrow.Author.Tests.{lt-ltb, le-ltb}
 use Rattle.laws.proofs.Firsts.{first_zero_lem}
 use Rattle.vec3.specs.declared.Vec3.{Vec3}
-use Rattle.base.specs.declared.Decided.{Decided}
 use Rattle.wire.specs.Wire.{vec_bytes}
 use Rattle.wire.proofs.Bytes.{three}
 use Rattle.bytes_loop.specs.Layout.{size_fault}
 use Rattle.bytes_loop.proofs.Faults.{size_right}
 use Rattle.wire.proofs.Lays.{width}
-use Rattle.arcs.specs.Answers.{Told, refused, answer, judged, arcFault}
-use Rattle.arcs.specs.Words.{Worded}
-use Rattle.arcs.specs.Words as W
+use Rattle.arcs.specs.Answers.{Told, answer, judged, arcFault}
 use Rattle.arcs.proofs.Judged.{judged_hit, judged_none}
 use Rattle.bytes_loop.specs.Outcome.{Outcome, outcome, refusal_of}
-use Rattle.bytes_arcs.specs.Arcs.{arc_at, arc_judged, next_judged, ends_judged, numbered, told_by, number_of, value_bytes, leave}
+use Rattle.bytes_arcs.specs.Arcs.{arc_at, arc_judged, next_judged, ends_judged, number_of, value_bytes, leave}
 
 -- ---- the values written one after the other
 pub one_written : {x : List ℕ} (out : List ℕ) (v : Vec3) → x ≡ sets out 0 (vec_bytes v) → x ≡ sets out 0 (value_bytes (v ∷ []))
@@ -54,18 +50,6 @@ module _ {f g : ℕ} (t : Told) (e : f ≡ g) where
 
   pub went_on_number : {x : ℕ} {u : Told} → f ≡ 0 → u ≡ t → x ≡ number_of u → x ≡ number_of (judged g t)
   went_on_number z p q = rw (← judged_none t e z p) q
-
--- ---- a relation, with its mark where the word is asked for
-module _ (out : List ℕ) {w : Worded} where
-  pub told_refused : (word : Bool) {f r : ℕ} → w ≡ W.refused f → r ≡ refusal_of f → outcome r out ≡ leave (told_by word w) out
-  unfolding leave
-  told_refused true e q = rw (e, q)
-  told_refused false e q = rw (e, q)
-
-  pub told_answer : (word : Bool) {n r : ℕ} {vs : List Vec3} {d : Decided} {x : Outcome ℕ}
-      → w ≡ W.answer (pos n) vs d → r ≡ numbered word n d → x ≡ leave (answer (pos r) vs) out → x ≡ leave (told_by word w) out
-  told_answer true {vs = vs} e q h = rw e (h ∙ ap (λ (k : ℕ). leave (answer (pos k) vs) out) q)
-  told_answer false {vs = vs} e q h = rw e (h ∙ ap (λ (k : ℕ). leave (answer (pos k) vs) out) q)
 
 -- ---- no refusal: each length is right
 module _ {f : ℕ} (a p : List ℕ) (n : ℕ) (e : f ≡ next_judged a p n) (z : f ≡ 0) where

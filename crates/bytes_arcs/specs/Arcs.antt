@@ -1,18 +1,15 @@
 -- The exports on arcs, over bytes. SCOPE 34: 1 for a position that is not 24 bytes, an arc that is not 72; a query's own after all refusals of the arc before
 -- it, a second arc's after all of the first's, and `desk_arc` judges both lengths before 3 and 4; 5 by the bytes that the answer writes. Definitions only.
-use Rattle.std.specs.Prelude.{ℕ, ◌+◌, ◌*◌, pos, Bool, true, false, List, [], ◌∷◌, ◌++◌, length, ltb}
+use Rattle.std.specs.Prelude.{ℕ, ◌*◌, List, [], ◌∷◌, ◌++◌, length, ltb}
 use Rattle.std.proofs.lemmas.List.Edits.{sets}
 use Rattle.numbers.specs.Choice.{if◌then◌else◌}
 use Rattle.laws.specs.Loop.{first}
 use Rattle.vec3.specs.declared.Vec3.{Vec3}
 use Rattle.wire.specs.Wire.{vec_of, vec_bytes}
-use Rattle.base.specs.declared.Decided.{Decided}
 use Rattle.minor_arc.specs.declared.MinorArc.{MinorArc}
 use Rattle.minor_arc.specs.declared.Mode.{Mode}
 use Rattle.arcs.specs.Answers.{Told, refused, answer, judged, arcFault, newAnswer, oppositeAnswer, side_answer, containsAnswer, intersectionAnswer, relate_answer}
-use Rattle.arcs.specs.Words.{Worded, forget, relate_worded}
-use Rattle.arcs.specs.Words as W
-use Rattle.bytes_loop.specs.Outcome.{Outcome, outcome, refusal_of, unsigned, mark_of}
+use Rattle.bytes_loop.specs.Outcome.{Outcome, outcome, refusal_of, unsigned}
 use Rattle.bytes_loop.specs.Layout.{size_fault}
 
 abbrev pub arc_at : List ℕ → MinorArc
@@ -47,26 +44,6 @@ intersection_told mode a b = judged (next_judged a b 72) (intersectionAnswer mod
 
 abbrev pub relate_told : Mode → List ℕ → List ℕ → Told
 relate_told mode a b = judged (next_judged a b 72) (relate_answer mode (arc_at a) (arc_at b))
-
--- SCOPE 62: an answer with its word has the mark added to its number
-abbrev pub marked : Worded → Told
-marked (W.refused f) = refused f
-marked (W.answer code vs d) = answer (pos (unsigned code + mark_of d)) vs
-
-abbrev pub relate_close_told : Mode → List ℕ → List ℕ → Told
-relate_close_told mode a b = judged (next_judged a b 72) (marked (relate_worded mode (arc_at a) (arc_at b)))
-
--- ---- inner: by whether the word is asked for
-abbrev pub numbered : Bool → ℕ → Decided → ℕ
-numbered false n d = n
-numbered true n d = n + mark_of d
-
-abbrev pub told_by : Bool → Worded → Told
-told_by false w = forget w
-told_by true w = marked w
-
-abbrev pub related_told : Bool → Mode → List ℕ → List ℕ → Told
-related_told word mode a b = judged (next_judged a b 72) (told_by word (relate_worded mode (arc_at a) (arc_at b)))
 
 -- ---- what is answered and written (SCOPE 33)
 abbrev pub number_of : Told → ℕ

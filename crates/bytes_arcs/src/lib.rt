@@ -1,13 +1,11 @@
 // The desk's functions on arcs, over bytes, for the exports. A position is 24 bytes, an arc 72: start, end, normal.
 ghost use Rattle.std.specs.Prelude.{◌≡◌, [], ◌∷◌, ◌≤◌, pos, length};
 ghost use Rattle.arcs.specs.Answers as Answers;
-ghost use Rattle.arcs.specs.Words.{worded_related};
 ghost use Rattle.bytes_loop.specs.Outcome.{outcome};
 ghost use Rattle.bytes_loop.specs.Layout.{size_fault};
 ghost use Rattle.bytes_arcs.specs.Arcs as Arcs;
 
 use arcs::{ArcMade, ArcRelated, Contained, Met, Sided};
-use base::Decided;
 use bytes_loop::refusal;
 use minor_arc::{MinorArc, Mode};
 use vec3::Vec3;
@@ -116,23 +114,15 @@ fn leave_met(out: &mut [u8], m: Met) -> u32
     }
 }
 
-// A relation's number, with its mark where the word is asked for.
-fn number(n: u32, word: bool, d: Decided) -> u32
-    requires { n ≤ 3 }
-    ensures { result ≡ Arcs.numbered word n d }
-{
-    if word { n + bytes_loop::mark(d) } else { n }
-}
-
-fn leave_related(out: &mut [u8], word: bool, x: ArcRelated) -> u32
-    ensures { outcome result out.new ≡ Arcs.leave (Arcs.told_by word (worded_related x)) out.old }
+fn leave_related(out: &mut [u8], x: ArcRelated) -> u32
+    ensures { outcome result out.new ≡ Arcs.leave (Answers.told_related x) out.old }
 {
     match x {
         ArcRelated::Refused(f) => refusal(f),
-        ArcRelated::Disjoint(d) => number(0, word, d),
-        ArcRelated::Intersecting(p, d) => leave_point(out, number(1, word, d), p),
-        ArcRelated::Touching(p, d) => leave_point(out, number(2, word, d), p),
-        ArcRelated::Overlapping(a, d) => leave_arc(out, number(3, word, d), a),
+        ArcRelated::Disjoint => 0,
+        ArcRelated::Intersecting(p) => leave_point(out, 1, p),
+        ArcRelated::Touching(p) => leave_point(out, 2, p),
+        ArcRelated::Overlapping(a) => leave_arc(out, 3, a),
     }
 }
 
@@ -185,25 +175,12 @@ pub fn intersection(mode: Mode, a: &[u8], b: &[u8], out: &mut [u8]) -> u32
     leave_met(out, arcs::intersection(mode, arc_at(a), arc_at(b)))
 }
 
-fn related(mode: Mode, word: bool, a: &[u8], b: &[u8], out: &mut [u8]) -> u32
-    ensures { outcome result out.new ≡ Arcs.leave (Arcs.related_told word mode a.now b.now) out.old }
+pub fn relate(mode: Mode, a: &[u8], b: &[u8], out: &mut [u8]) -> u32
+    ensures { outcome result out.new ≡ Arcs.leave (Arcs.relate_told mode a.now b.now) out.old }
 {
     let f = next_judged(a, b, 72);
     if f != 0 {
         return refusal(f);
     }
-    leave_related(out, word, arcs::relate(mode, arc_at(a), arc_at(b)))
-}
-
-pub fn relate(mode: Mode, a: &[u8], b: &[u8], out: &mut [u8]) -> u32
-    ensures { outcome result out.new ≡ Arcs.leave (Arcs.relate_told mode a.now b.now) out.old }
-{
-    related(mode, false, a, b, out)
-}
-
-// The same, with 32,768 added where it is close.
-pub fn relate_close(mode: Mode, a: &[u8], b: &[u8], out: &mut [u8]) -> u32
-    ensures { outcome result out.new ≡ Arcs.leave (Arcs.relate_close_told mode a.now b.now) out.old }
-{
-    related(mode, true, a, b, out)
+    leave_related(out, arcs::relate(mode, arc_at(a), arc_at(b)))
 }

@@ -22,7 +22,7 @@ use Rattle.bytes_loop.specs.Layout.{count_at, state_byte, state_of, header_at, p
 use Rattle.bytes_loop.proofs.Faults.{wrong_size, right_size, frame_size, Copyable, copyable}
 use Rattle.bytes_loop.proofs.Parts.{positions_length, normals_length, classes_length}
 use Rattle.bytes_ask.specs.declared.Question.{Question}
-use Rattle.bytes_ask.specs.declared.Question.TheVariants.{Place, PlaceClose, Vertex, OnEdge, Convex, Simple}
+use Rattle.bytes_ask.specs.declared.Question.TheVariants.{Place, Vertex, OnEdge, Convex, Simple}
 use Rattle.bytes_ask.specs.Ask.{number_of, told_at, needs_position, told_by, ask_told}
 
 -- ---- a count above 512
@@ -62,7 +62,6 @@ module _ (h : Header) (ps ns : List Float) (cs : List ℕ) where
   at_refused : (q : Question) (v : Vec3) {k : ℕ} → loop_fault h ps ns cs ≡ suc k → told_at q h ps ns cs v ≡ refused (suc k)
   unfolding place_answer vertex_answer on_edge_answer convex_answer simple_answer query_fault
   at_refused Place v e = rw e
-  at_refused PlaceClose v e = rw e
   at_refused Vertex v e = rw e
   at_refused OnEdge v e = rw e
   at_refused Convex v e = rw e
@@ -71,7 +70,6 @@ module _ (h : Header) (ps ns : List Float) (cs : List ℕ) where
   by_refused : (q : Question) (p : List ℕ) {k : ℕ} → loop_fault h ps ns cs ≡ suc k → told_by q h ps ns cs p ≡ refused (suc k)
   unfolding told_by
   by_refused Place p e = rw e
-  by_refused PlaceClose p e = rw e
   by_refused Vertex p e = rw e
   by_refused OnEdge p e = rw e
   by_refused Convex p e = at_refused Convex (vec_of p 0) e
@@ -83,7 +81,6 @@ module _ (h : Header) (ps ns : List Float) (cs : List ℕ) where
 
   any_position : (q : Question) (v w : Vec3) → needs_position q ≡ false → told_at q h ps ns cs v ≡ told_at q h ps ns cs w
   any_position Place v w e = cc
-  any_position PlaceClose v w e = cc
   any_position Vertex v w e = cc
   any_position OnEdge v w e = cc
   any_position Convex v w e = refl

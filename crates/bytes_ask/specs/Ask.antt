@@ -1,33 +1,25 @@
 -- Questions over bytes. SCOPE 34: a position's own length is judged after all refusals of the loop before it. Definitions only.
-use Rattle.std.specs.Prelude.{ℕ, ◌+◌, Bool, true, false, List, length, Float}
+use Rattle.std.specs.Prelude.{ℕ, Bool, true, false, List, length, Float}
 use Rattle.laws.specs.Loop.{first}
 use Rattle.vec3.specs.declared.Vec3.{Vec3}
 use Rattle.loop_header.specs.declared.Header.{Header}
 use Rattle.loop_header.specs.Loops.{loop_fault}
 use Rattle.loop_ask.specs.Answers.{Told, refused, answer, judged}
-use Rattle.loop_ask.specs.Words.{Worded}
-use Rattle.loop_ask.specs.Words as W
-use Rattle.loop_ask.specs.Questions.{place_answer, place_worded, vertex_answer, on_edge_answer, convex_answer, simple_answer}
+use Rattle.loop_ask.specs.Questions.{place_answer, vertex_answer, on_edge_answer, convex_answer, simple_answer}
 use Rattle.wire.specs.Wire.{vec_size, vec_of}
-use Rattle.bytes_loop.specs.Outcome.{refusal_of, mark_of}
+use Rattle.bytes_loop.specs.Outcome.{refusal_of}
 use Rattle.bytes_loop.specs.Layout.{header_at, positions_at, normals_at, classes_at, size_fault, header_fault, frame_fault}
 use Rattle.bytes_ask.specs.declared.Question.{Question}
-use Rattle.bytes_ask.specs.declared.Question.TheVariants.{Place, PlaceClose, Vertex, OnEdge, Convex, Simple}
+use Rattle.bytes_ask.specs.declared.Question.TheVariants.{Place, Vertex, OnEdge, Convex, Simple}
 
 -- SCOPE 33: the number that is answered
 abbrev pub number_of : Told → ℕ
 number_of (refused f) = refusal_of f
 number_of (answer n) = n
 
--- SCOPE 62: a close answer has 32,768 added, a refusal has no word
-abbrev pub marked : Worded → Told
-marked (W.refused k) = refused k
-marked (W.answer n d) = answer (n + mark_of d)
-
 -- the answer about a position; convexity and simplicity are asked of none
 abbrev pub told_at : Question → Header → List Float → List Float → List ℕ → Vec3 → Told
 told_at Place h ps ns cs p = place_answer h ps ns cs p
-told_at PlaceClose h ps ns cs p = marked (place_worded h ps ns cs p)
 told_at Vertex h ps ns cs p = vertex_answer h ps ns cs p
 told_at OnEdge h ps ns cs p = on_edge_answer h ps ns cs p
 told_at Convex h ps ns cs p = convex_answer h ps ns cs
@@ -35,7 +27,6 @@ told_at Simple h ps ns cs p = simple_answer h ps ns cs
 
 abbrev pub needs_position : Question → Bool
 needs_position Place = true
-needs_position PlaceClose = true
 needs_position Vertex = true
 needs_position OnEdge = true
 needs_position Convex = false
@@ -64,10 +55,6 @@ simple_told s = judged (frame_fault s) (simple_answer (header_at s) (positions_a
 -- with the header alone in bytes, and the position as a vector
 abbrev pub place_told : List ℕ → List Float → List Float → List ℕ → Vec3 → Told
 place_told s ps ns cs p = judged (header_fault s) (place_answer (header_at s) ps ns cs p)
-
--- SCOPE 62: the same with its word
-abbrev pub place_close_told : List ℕ → List Float → List Float → List ℕ → Vec3 → Told
-place_close_told s ps ns cs p = judged (header_fault s) (marked (place_worded (header_at s) ps ns cs p))
 
 -- ---- inner
 abbrev pub no_query : Header → List Float → List Float → List ℕ → ℕ

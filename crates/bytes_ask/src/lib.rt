@@ -1,11 +1,10 @@
 // Questions put to loops in bytes. The floats are copied into work arrays, the classes are read where they stand.
 ghost use Rattle.std.specs.Prelude.{◌≡◌, length};
 ghost use Rattle.loop_ask.specs.Answers as An;
-ghost use Rattle.loop_ask.specs.Words as W;
 ghost use Rattle.bytes_ask.specs.Ask as As;
 ghost use Rattle.bytes_loop.specs.Layout as F;
 
-use bytes_loop::{mark, refusal};
+use bytes_loop::refusal;
 use loop_ask::{Answered, Placed};
 use loop_header::Header;
 use vec3::Vec3;
@@ -13,7 +12,6 @@ use vec3::Vec3;
 #[derive(Drop)]
 pub enum Question {
     Place,
-    PlaceClose,
     Vertex,
     OnEdge,
     Convex,
@@ -25,21 +23,9 @@ pub fn placed(p: Placed) -> u32
 {
     match p {
         Placed::Refused(f) => refusal(f),
-        Placed::Outside(_) => 0,
-        Placed::Inside(_) => 1,
+        Placed::Outside => 0,
+        Placed::Inside => 1,
         Placed::Mute => 2,
-    }
-}
-
-// The same with its word: 32,768 is added where it is close.
-pub fn placed_close(p: Placed) -> u32
-    ensures { result ≡ As.number_of (As.marked (W.worded_placed p)) }
-{
-    match p {
-        Placed::Refused(f) => refusal(f),
-        Placed::Outside(d) => mark(d),
-        Placed::Inside(d) => 1 + mark(d),
-        Placed::Mute => 2, // it takes no test
     }
 }
 
@@ -66,9 +52,6 @@ fn query(q: Question, h: Header, positions: &[f64], normals: &[f64], classes: &[
 {
     match q {
         Question::Place => placed(loop_ask::contains_position(h, positions, normals, classes, p)),
-        Question::PlaceClose => {
-            placed_close(loop_ask::contains_position(h, positions, normals, classes, p))
-        }
         Question::Vertex => answered(loop_ask::has_vertex(h, positions, normals, classes, p)),
         Question::OnEdge => {
             answered(loop_ask::any_edge_contains_position(h, positions, normals, classes, p))
@@ -83,7 +66,6 @@ fn needs_position(q: Question) -> bool
 {
     match q {
         Question::Place => true,
-        Question::PlaceClose => true,
         Question::Vertex => true,
         Question::OnEdge => true,
         Question::Convex => false,
@@ -163,29 +145,6 @@ pub fn place(header: &[u8], positions: &[f64], normals: &[f64], classes: &[u8], 
         return refusal(f);
     }
     placed(loop_ask::contains_position(
-        bytes_loop::header_at(header),
-        positions,
-        normals,
-        classes,
-        p,
-    ))
-}
-
-// The same with its word.
-pub fn place_close(
-    header: &[u8],
-    positions: &[f64],
-    normals: &[f64],
-    classes: &[u8],
-    p: Vec3,
-) -> u32
-    ensures { result ≡ As.number_of (As.place_close_told header.now positions.now normals.now classes.now p) }
-{
-    let f = bytes_loop::header_fault(header);
-    if f != 0 {
-        return refusal(f);
-    }
-    placed_close(loop_ask::contains_position(
         bytes_loop::header_at(header),
         positions,
         normals,

@@ -1,5 +1,5 @@
 -- Triangles in bytes. Assumes nothing.
-use Prim.Native.Nat.{ℕ, zero, suc, ◌+◌, ◌-◌, ◌*◌, ◌≤◌, ◌<◌}
+use Prim.Native.Nat.{ℕ, zero, suc, ◌-◌, ◌*◌, ◌≤◌, ◌<◌}
 use mathlib.Core.Path.{◌≡◌, refl, sym, ap, ◌∙◌, subst}
 use mathlib.Core.Bool.{Bool, true, false}
 use mathlib.Core.List.{List, ◌∷◌, ◌++◌}
@@ -12,7 +12,6 @@ use borrow.Author.Tests.{lt-ltb, le-ltb}
 use Rattle.laws.specs.Loop.{first}
 use Rattle.laws.proofs.Loops.{first_hit}
 use Rattle.laws.proofs.Copies.{first_of_lem}
-use Rattle.base.specs.declared.Decided.{Decided}
 use Rattle.ring_cut.specs.Cut as C
 use Rattle.loop_header.specs.declared.State.{State}
 use Rattle.loop_header.specs.declared.State.TheVariants.{Empty, Full, Ring}
@@ -20,20 +19,15 @@ use Rattle.loop_header.specs.declared.Header.{Header}
 use Rattle.loop_header.specs.Loops.{cut_fault}
 use Rattle.loop_header.proofs.Sounds.{cuttable}
 use Rattle.loop_ask.specs.Answers.{Told, answer}
-use Rattle.loop_ask.specs.Words.{Worded, forget}
-use Rattle.loop_ask.proofs.Words.{forget_worded}
 use Rattle.icosahedron.specs.Table.{triples}
 use Rattle.loop_triangles.specs.Triangles as T
-use Rattle.loop_triangles.specs.Close.{CloseOutcome, triangulate_close_outcome}
-use Rattle.bytes_loop.specs.Outcome.{Outcome, outcome, refusal_of, mark_of, outcome_by}
+use Rattle.bytes_loop.specs.Outcome.{Outcome, outcome, refusal_of, outcome_by}
 use Rattle.bytes_loop.specs.Layout.{count_at, state_byte, state_of, header_at, positions_at, classes_at, header_fault, frame_fault, large_fault, many_fault, copy_fault, Array}
-use Rattle.bytes_loop.proofs.Marks.{mark_small}
 use Rattle.bytes_loop.proofs.Faults.{frame_size, by_outcome}
 use Rattle.bytes_loop.proofs.Parts.{positions_length, classes_length}
 use Rattle.bytes_ask.specs.Ask.{number_of}
 use Rattle.bytes_ask.proofs.Asks.{cut_large, is_large, large_is, copies}
-use Rattle.bytes_cut.specs.Cut.{triples_of, told_outcome, out_outcome, blank, room_fault, parts_outcome, triangles_outcome, numbers_outcome, floats_outcome, Small}
-use Rattle.bytes_cut.specs.Close.{worded_outcome, close_outcome, parts_close_outcome, triangles_close_outcome, cut_by, parts_by, triangles_by}
+use Rattle.bytes_cut.specs.Cut.{triples_of, told_outcome, out_outcome, blank, cut_outcome, room_fault, parts_outcome, triangles_outcome, numbers_outcome, floats_outcome, Small}
 
 -- ---- a count of triangles is small
 module _ (ps : List Float) (cs t : List ℕ) (h : length cs ≤ 512) where
@@ -61,40 +55,13 @@ small_by h ps cs t zero e =
     state_small ps cs t (omega (arith, d.most, d.shaped.classes)) h.state
 small_by h ps cs t (suc k) e = tt
 
-small_answer : (h : Header) (ps : List Float) (cs t : List ℕ) → Small (T.triangulate_outcome h ps cs t).answer
+pub counted : (h : Header) (ps : List Float) (cs t : List ℕ) {u : Told} {l : List ℕ} → record { answer = u; triangles = l } ≡ T.triangulate_outcome h ps cs t → Small u
 unfolding T.triangulate_outcome
-small_answer h ps cs t = small_by h ps cs t (cut_fault h ps cs) refl
-
-module _ (h : Header) (ps : List Float) (cs t : List ℕ) {l : List ℕ} where
-  pub counted : {u : Told} → record { answer = u; triangles = l } ≡ T.triangulate_outcome h ps cs t → Small u
-  counted e = subst (λ (x : Told). Small x) (sym (ap (λ (o : T.Outcome). o.answer) e)) (small_answer h ps cs t)
-
-  pub counted_close : {w : Worded} → record { answer = w; triangles = l } ≡ triangulate_close_outcome h ps cs t → Small (forget w)
-  counted_close e =
-      let told = ap (λ (o : CloseOutcome). forget o.answer) e ∙ forget_worded (T.triangulate_outcome h ps cs t).answer _ in
-      subst (λ (x : Told). Small x) (sym told) (small_answer h ps cs t)
-
--- and its mark is too
-pub marked_small : (d : Decided) {n m : ℕ} → n ≤ 510 → m ≡ mark_of d → n + m ≤ 33278
-marked_small d h e = omega (arith, mark_small d)
+counted h ps cs t {u} e = subst (λ (x : Told). Small x) (sym (ap (λ (o : T.Outcome). o.answer) e)) (small_by h ps cs t (cut_fault h ps cs) refl)
 
 -- ---- what is left
 pub slid : {o : T.Outcome} {u : Told} {l : List ℕ} {x : Outcome ℕ} (out : List ℕ) → record { answer = u; triangles = l } ≡ o → x ≡ told_outcome u l out → x ≡ out_outcome o out
 slid out e q = q ∙ ap (λ (o : T.Outcome). out_outcome o out) e
-
-pub slid_close : {o : CloseOutcome} {w : Worded} {l : List ℕ} {x : Outcome ℕ} (out : List ℕ) → record { answer = w; triangles = l } ≡ o → x ≡ worded_outcome w l out → x ≡ close_outcome o out
-slid_close out e q = q ∙ ap (λ (o : CloseOutcome). close_outcome o out) e
-
--- the two differ in what is cut alone
-by_parts : (b : Bool) (h : Header) (ps : List Float) (cs out : List ℕ) → parts_by b h ps cs out ≡ outcome_by (first (cut_fault h ps cs) (room_fault h (length out))) out (cut_by b h ps cs (blank (3 * triples_of h)) out)
-unfolding parts_by parts_outcome parts_close_outcome cut_by
-by_parts true h ps cs out = refl
-by_parts false h ps cs out = refl
-
-by_triangles : (b : Bool) (s out : List ℕ) → triangles_by b s out ≡ outcome_by (frame_fault s) out (parts_by b (header_at s) (positions_at s) (classes_at s) out)
-unfolding triangles_by triangles_outcome triangles_close_outcome parts_by
-by_triangles true s out = refl
-by_triangles false s out = refl
 
 take_same : {A : Type 0} (a : A) (k m : ℕ) → k ≤ m → take k (replicate m a) ≡ replicate k a
 take_same a zero m h = refl
@@ -105,42 +72,44 @@ pub front_blank : (m : ℕ) {k : ℕ} → k ≤ m → take {A = ℕ} k (replicat
 unfolding blank
 front_blank m {k} h = take_same 0 k m h
 
-module _ (b : Bool) (h : Header) (ps : List Float) (cs out : List ℕ) {f : ℕ} (e : f ≡ cut_fault h ps cs) where
-  pub parts_refused : {r : ℕ} → (f ≡ 0 → ⊥) → r ≡ refusal_of f → outcome r out ≡ parts_by b h ps cs out
-  parts_refused n q = rw (by_parts b h ps cs out, q, ← e, first_hit f (room_fault h (length out)) n) (by_outcome f out _ n)
+module _ (h : Header) (ps : List Float) (cs out : List ℕ) {f : ℕ} (e : f ≡ cut_fault h ps cs) where
+  pub parts_refused : {r : ℕ} → (f ≡ 0 → ⊥) → r ≡ refusal_of f → outcome r out ≡ parts_outcome h ps cs out
+  unfolding parts_outcome
+  parts_refused n q = rw (q, ← e, first_hit f (room_fault h (length out)) n) (by_outcome f out _ n)
 
   module _ {m : ℕ} (z : f ≡ 0) (t : m ≡ triples_of h) where
     pub few : h.count ≤ 512
     few = (cuttable h ps cs (sym e ∙ z)).most
 
-    pub no_room : {r : ℕ} → length out < 6 * m → r ≡ refusal_of 5 → outcome r out ≡ parts_by b h ps cs out
-    unfolding room_fault
-    no_room g q = rw (by_parts b h ps cs out, q, ← e, z, ← t, lt-ltb _ _ g)
+    pub no_room : {r : ℕ} → length out < 6 * m → r ≡ refusal_of 5 → outcome r out ≡ parts_outcome h ps cs out
+    unfolding parts_outcome room_fault
+    no_room g q = rw (q, ← e, z, ← t, lt-ltb _ _ g)
 
-    pub roomy : {l : List ℕ} {x : Outcome ℕ} → 6 * m ≤ length out → l ≡ blank (3 * m) → x ≡ cut_by b h ps cs l out → x ≡ parts_by b h ps cs out
-    unfolding room_fault
-    roomy g o q = rw (by_parts b h ps cs out, ← e, z, ← t, le-ltb _ _ g, ← o) q
+    pub roomy : {l : List ℕ} {x : Outcome ℕ} → 6 * m ≤ length out → l ≡ blank (3 * m) → x ≡ cut_outcome h ps cs l out → x ≡ parts_outcome h ps cs out
+    unfolding parts_outcome room_fault
+    roomy g b q = rw (← e, z, ← t, le-ltb _ _ g, ← b) q
 
 -- ---- a loop in bytes
 bytes_large : (s : List ℕ) → frame_fault s ≡ 0 → 512 < count_at s → cut_fault (header_at s) (positions_at s) (classes_at s) ≡ large_fault (state_of (state_byte s))
 bytes_large s e g = cut_large (header_at s) (positions_at s) (classes_at s) g (positions_length s) (classes_length s (frame_size s e))
 
-pub early : (b : Bool) (s out : List ℕ) {f r : ℕ} → f ≡ copy_fault s → (f ≡ 0 → ⊥) → r ≡ refusal_of f → outcome r out ≡ triangles_by b s out
-unfolding copy_fault
-early b s out {f} {r} e n q = at (frame_fault s) refl (e ∙ refl) ∙ sym (by_triangles b s out)
+pub early : (s out : List ℕ) {f r : ℕ} → f ≡ copy_fault s → (f ≡ 0 → ⊥) → r ≡ refusal_of f → outcome r out ≡ triangles_outcome s out
+unfolding triangles_outcome copy_fault
+early s out {f} {r} e n q = at (frame_fault s) refl (e ∙ refl)
   where
-    at : (k : ℕ) → frame_fault s ≡ k → f ≡ first k (many_fault s) → outcome r out ≡ outcome_by k out (parts_by b (header_at s) (positions_at s) (classes_at s) out)
-    at (suc k) a o = rw (q, o)
-    at zero a o =
-        let g = is_large s (λ z. n (o ∙ z)) in
-        parts_refused b (header_at s) (positions_at s) (classes_at s) out (o ∙ large_is s g ∙ sym (bytes_large s a g)) n q
+    at : (k : ℕ) → frame_fault s ≡ k → f ≡ first k (many_fault s) → outcome r out ≡ outcome_by k out (parts_outcome (header_at s) (positions_at s) (classes_at s) out)
+    at (suc k) a b = rw (q, b)
+    at zero a b =
+        let g = is_large s (λ z. n (b ∙ z)) in
+        parts_refused (header_at s) (positions_at s) (classes_at s) out (b ∙ large_is s g ∙ sym (bytes_large s a g)) n q
 
 module _ (s : List ℕ) {f : ℕ} (e : f ≡ copy_fault s) (z : f ≡ 0) where
   pub array : {n a : ℕ} → n ≡ count_at s → a ≡ 3 * n → Array s a
   array q a = let d = copies s e z in record { size = d.size; for_positions = rw (← q) a }
 
-  pub late : (b : Bool) (out : List ℕ) {x : Outcome ℕ} → x ≡ parts_by b (header_at s) (positions_at s) (classes_at s) out → x ≡ triangles_by b s out
-  late b out t = rw (by_triangles b s out, (copies s e z).framed) t
+  pub late : (out : List ℕ) {x : Outcome ℕ} → x ≡ parts_outcome (header_at s) (positions_at s) (classes_at s) out → x ≡ triangles_outcome s out
+  unfolding triangles_outcome
+  late out t = rw (copies s e z).framed t
 
 -- ---- with the header alone in bytes
 module _ (s : List ℕ) (ps : List Float) (cs out : List ℕ) {f : ℕ} (e : f ≡ header_fault s) where

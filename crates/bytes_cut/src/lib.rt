@@ -4,11 +4,10 @@ ghost use Rattle.bytes_loop.specs.Layout as F;
 ghost use Rattle.bytes_loop.specs.Outcome.{outcome};
 ghost use Rattle.bytes_ask.specs.Ask.{number_of};
 ghost use Rattle.bytes_cut.specs.Cut as Cu;
-ghost use Rattle.bytes_cut.specs.Close as Cl;
 
 use bytes_loop::refusal;
 use loop_header::{Header, State};
-use loop_triangles::{Cut, CutClose};
+use loop_triangles::Cut;
 
 // How many triangles a loop that was judged has at most.
 fn triples_of(h: Header) -> usize
@@ -39,23 +38,8 @@ fn leave_cut(c: Cut, triples: &[u16], out: &mut [u8]) -> u32
     }
 }
 
-// The same, with the mark of their word added.
-fn leave_close(c: CutClose, triples: &[u16], out: &mut [u8]) -> u32
-    requires { Cl.Counted c × (2 * length triples.now ≤ length out.old) }
-    ensures { outcome result out.new ≡ Cl.laid_outcome c triples.now out.old }
-{
-    match c {
-        CutClose::Refused(f) => refusal(f),
-        CutClose::Triangles(n, d) => {
-            wire::put_numbers(out, triples);
-            (n as u32) + bytes_loop::mark(d)
-        }
-    }
-}
-
-// Cuts a loop that was judged, with room for all of its triangles. Whether their word is asked for comes first, here and below.
+// Cuts a loop that was judged, with room for all of its triangles.
 fn cut_into(
-    worded: bool,
     h: Header,
     positions: &[f64],
     classes: &[u8],
@@ -63,19 +47,15 @@ fn cut_into(
     out: &mut [u8],
 ) -> u32
     requires { (h.count ≤ 512) × (length triples.old ≡ 3 * Cu.triples_of h) × (6 * Cu.triples_of h ≤ length out.old) }
-    ensures { outcome result out.new ≡ Cl.cut_by worded h positions.now classes.now triples.old out.old }
+    ensures { outcome result out.new ≡ Cu.cut_outcome h positions.now classes.now triples.old out.old }
 {
-    if worded {
-        let w = loop_triangles::triangulate_close(h, positions, classes, triples);
-        return leave_close(w, triples, out);
-    }
     let c = loop_triangles::triangulate(h, positions, classes, triples);
     leave_cut(c, triples, out)
 }
 
 // The refusals of a loop in its parts, and then that of the room for its triangles.
-fn cut_parts(worded: bool, h: Header, positions: &[f64], classes: &[u8], out: &mut [u8]) -> u32
-    ensures { outcome result out.new ≡ Cl.parts_by worded h positions.now classes.now out.old }
+fn cut_parts(h: Header, positions: &[f64], classes: &[u8], out: &mut [u8]) -> u32
+    ensures { outcome result out.new ≡ Cu.parts_outcome h positions.now classes.now out.old }
 {
     let f = loop_header::cut_fault(h, positions, classes);
     if f != 0 {
@@ -87,20 +67,21 @@ fn cut_parts(worded: bool, h: Header, positions: &[f64], classes: &[u8], out: &m
     }
     let size = 3 * m;
     let mut triples = [0u16; 1530];
-    cut_into(worded, h, positions, classes, &mut triples[..size], out)
+    cut_into(h, positions, classes, &mut triples[..size], out)
 }
 
-fn cut_in(worded: bool, s: &[u8], positions: &mut [f64], out: &mut [u8]) -> u32
+fn cut_in(s: &[u8], positions: &mut [f64], out: &mut [u8]) -> u32
     requires { F.Array s.now (length positions.old) }
-    ensures { outcome result out.new ≡ Cl.parts_by worded (F.header_at s.now) (F.positions_at s.now) (F.classes_at s.now) out.old }
+    ensures { outcome result out.new ≡ Cu.parts_outcome (F.header_at s.now) (F.positions_at s.now) (F.classes_at s.now) out.old }
 {
     let from = bytes_loop::classes_from(s);
     bytes_loop::read_positions(s, positions);
-    cut_parts(worded, bytes_loop::header_at(s), positions, &s[from..], out)
+    cut_parts(bytes_loop::header_at(s), positions, &s[from..], out)
 }
 
-fn cut_by(worded: bool, s: &[u8], out: &mut [u8]) -> u32
-    ensures { outcome result out.new ≡ Cl.triangles_by worded s.now out.old }
+// Cuts a loop in bytes into triangles in bytes.
+pub fn cut(s: &[u8], out: &mut [u8]) -> u32
+    ensures { outcome result out.new ≡ Cu.triangles_outcome s.now out.old }
 {
     let f = bytes_loop::copy_fault(s);
     if f != 0 {
@@ -108,21 +89,7 @@ fn cut_by(worded: bool, s: &[u8], out: &mut [u8]) -> u32
     }
     let size = 3 * bytes_loop::count_at(s);
     let mut positions = [0.0f64; 1536];
-    cut_in(worded, s, &mut positions[..size], out)
-}
-
-// Cuts a loop in bytes into triangles in bytes.
-pub fn cut(s: &[u8], out: &mut [u8]) -> u32
-    ensures { outcome result out.new ≡ Cu.triangles_outcome s.now out.old }
-{
-    cut_by(false, s, out)
-}
-
-// The same, with the mark of the cutting's word added.
-pub fn cut_close(s: &[u8], out: &mut [u8]) -> u32
-    ensures { outcome result out.new ≡ Cl.triangles_close_outcome s.now out.old }
-{
-    cut_by(true, s, out)
+    cut_in(s, &mut positions[..size], out)
 }
 
 fn number(c: Cut) -> u32

@@ -1,7 +1,5 @@
 -- What a call leaves: the number that it answers and its output buffer. Definitions only.
 use Rattle.std.specs.Prelude.{ℕ, zero, suc, ◌+◌, ℤ, pos, negsuc, List}
-use Rattle.base.specs.declared.Decided.{Decided}
-use Rattle.base.specs.declared.Decided.TheVariants.{First, Retest}
 
 pub record Outcome (A : Type 0) : Type 0 where
   pub number : ℕ
@@ -18,11 +16,6 @@ unsigned (negsuc n) = 2 + n
 -- SCOPE 33: a refusal is 65,536 plus its number
 abbrev pub refusal_of : ℕ → ℕ
 refusal_of f = 65536 + f
-
--- SCOPE 62: what a close answer has added
-abbrev pub mark_of : Decided → ℕ
-mark_of First = 0
-mark_of Retest = 32768
 
 -- SCOPE 33: a refusal leaves the output as it was
 abbrev pub outcome_by : {A : Type 0} → ℕ → List A → Outcome A → Outcome A

@@ -1,10 +1,9 @@
 // A loop in bytes: 88 of header, then its positions, its normals and its classes. Read from lent bytes and written into them here, and nowhere else.
 ghost use Rattle.std.specs.Prelude.{◌≡◌, [], ◌∷◌, ◌+◌, ◌*◌, ◌≤◌, ◌<◌, length};
 ghost use Rattle.std.proofs.lemmas.List.Edits.{sets};
-ghost use Rattle.bytes_loop.specs.Outcome.{refusal_of, mark_of};
+ghost use Rattle.bytes_loop.specs.Outcome.{refusal_of};
 ghost use Rattle.bytes_loop.specs.Layout as F;
 
-use base::Decided;
 use cap::Cap;
 use chord_length::ChordLength;
 use loop_header::{Header, State};
@@ -19,16 +18,6 @@ pub fn refusal(f: u8) -> u32
     ensures { result ≡ refusal_of f }
 {
     65536 + f as u32
-}
-
-// What an answer has added by which test decided: nothing, or 32,768 where it is close.
-pub fn mark(d: Decided) -> u32
-    ensures { result ≡ mark_of d }
-{
-    match d {
-        Decided::First => 0,
-        Decided::Retest => 32768,
-    }
 }
 
 fn state_of(code: u8) -> State

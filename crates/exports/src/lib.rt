@@ -1,4 +1,5 @@
-// C-style exports over numbers and slices, for hosts that link libdesk.a (exports/library), which joins these to those of `exports_arcs`, `exports_scene`, `exports_far` and `exports_close`.
+// C-style exports over numbers and slices, for hosts that link libdesk.a (exports/library), which joins these to those of `exports_scene` and `exports_far`.
 // Everything is little-endian; a refusal is 65,536 plus its number.
 pub mod floats;
 pub mod loops;
+pub mod minor_arcs;

@@ -7,9 +7,7 @@ use Rattle.loop_ask.specs.declared.Placed.{Placed}
 use Rattle.loop_ask.specs.declared.Placed.TheVariants as Placed
 use Rattle.loop_ask.specs.declared.Answered.{Answered}
 use Rattle.loop_ask.specs.declared.Answered.TheVariants as Answered
-use Rattle.loop_ask.specs.Answers.{Told, refused, answer, toldAnswered}
-use Rattle.loop_ask.specs.Words.{Worded, worded_placed}
-use Rattle.loop_ask.specs.Words as W
+use Rattle.loop_ask.specs.Answers.{Told, refused, answer, toldPlaced, toldAnswered}
 use Rattle.loop_ask.proofs.contains_position as Place
 use Rattle.loop_ask.proofs.has_vertex as Vertex
 use Rattle.loop_ask.proofs.any_edge_contains_position as OnEdge
@@ -17,18 +15,18 @@ use Rattle.loop_ask.proofs.is_convex as Convex
 use Rattle.loop_ask.proofs.is_simple as Simple
 use Rattle.loop_ask.proofs.is_equivalent as Equivalent
 
--- ---- from the number, and of a place the word, back to the answer
-back_placed : Worded → Placed
-back_placed (W.refused k) = Placed.Refused k
-back_placed (W.answer zero d) = Placed.Outside d
-back_placed (W.answer (suc zero) d) = Placed.Inside d
-back_placed (W.answer (suc (suc n)) d) = Placed.Mute
+-- ---- from the number back to the answer
+back_placed : Told → Placed
+back_placed (refused k) = Placed.Refused k
+back_placed (answer zero) = Placed.Outside
+back_placed (answer (suc zero)) = Placed.Inside
+back_placed (answer (suc (suc n))) = Placed.Mute
 
-placed_back : (x : Placed) → back_placed (worded_placed x) ≡ x
+placed_back : (x : Placed) → back_placed (toldPlaced x) ≡ x
 unfolding back_placed
 placed_back (Placed.Refused k) = refl
-placed_back (Placed.Outside d) = refl
-placed_back (Placed.Inside d) = refl
+placed_back Placed.Outside = refl
+placed_back Placed.Inside = refl
 placed_back Placed.Mute = refl
 
 back_answered : Told → Answered
@@ -42,8 +40,8 @@ answered_back (Answered.Refused k) = refl
 answered_back Answered.No = refl
 answered_back Answered.Yes = refl
 
-pub one_placed : OneToOne worded_placed
-one_placed = by_back worded_placed back_placed placed_back
+pub one_placed : OneToOne toldPlaced
+one_placed = by_back toldPlaced back_placed placed_back
 
 pub one_answered : OneToOne toldAnswered
 one_answered = by_back toldAnswered back_answered answered_back

@@ -12,8 +12,8 @@ pub data Told : Type 0 where
 
 abbrev pub toldPlaced : Placed → Told
 toldPlaced (Placed.Refused k) = refused k
-toldPlaced (Placed.Outside d) = answer 0
-toldPlaced (Placed.Inside d) = answer 1
+toldPlaced Placed.Outside = answer 0
+toldPlaced Placed.Inside = answer 1
 toldPlaced Placed.Mute = answer 2
 
 abbrev pub toldAnswered : Answered → Told

@@ -5,7 +5,6 @@ use Rattle.numbers.specs.Choice.{if◌then◌else◌}
 use Rattle.laws.specs.Loop.{first}
 use Rattle.vec3.specs.declared.Vec3.{Vec3}
 use Rattle.vec3.specs.Vec.{cleared}
-use Rattle.base.specs.Close.{decided}
 use Rattle.judge.specs.Judge.{fault_of}
 use Rattle.loop_header.specs.declared.Header.{Header}
 use Rattle.loop_header.specs.declared.State.{State}
@@ -14,19 +13,13 @@ use Rattle.loop_header.specs.Loops.{loop_fault}
 use Rattle.ring_edges.specs.Edges.{on_edge, has_vertex}
 use Rattle.ring_shape.specs.Shapes.{convex, simple, same_rings}
 use Rattle.loop_ask.specs.Answers.{Told, answer, boolTold, judged}
-use Rattle.loop_ask.specs.Words.{Worded, worded}
 use Rattle.loop_ask.specs.Places.{place_of}
-use Rattle.loop_ask.specs.Close.{close_place}
 
 unfoldable pub query_fault : Header → List Float → List Float → List ℕ → Vec3 → ℕ
 query_fault h ps ns cs p = first (loop_fault h ps ns cs) (fault_of p)
 
 unfoldable pub place_answer : Header → List Float → List Float → List ℕ → Vec3 → Told
 place_answer h ps ns cs p = judged (query_fault h ps ns cs (cleared p)) (answer (place_of h ps ns (cleared p)))
-
--- SCOPE 62: the same with its word
-abbrev pub place_worded : Header → List Float → List Float → List ℕ → Vec3 → Worded
-place_worded h ps ns cs p = worded (place_answer h ps ns cs p) (decided (close_place h ps ns (cleared p)))
 
 unfoldable pub vertex_answer : Header → List Float → List Float → List ℕ → Vec3 → Told
 vertex_answer h ps ns cs p = judged (query_fault h ps ns cs (cleared p)) (boolTold (has_vertex ps h.count (cleared p)))

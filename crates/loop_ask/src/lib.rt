@@ -1,25 +1,19 @@
 // Asking a loop: whether a place lies in it, at a corner or on an edge, whether it is convex or simple, and whether another is the same. Each judges what it is
 // handed, then answers.
 ghost use Rattle.std.specs.Prelude.{◌≡◌, ◌*◌, ◌≤◌, length};
-ghost use Rattle.base.specs.Close.{decided};
 ghost use Rattle.loop_ask.specs.Answers as An;
-ghost use Rattle.loop_ask.specs.Close as C;
 ghost use Rattle.loop_ask.specs.Places as P;
 ghost use Rattle.loop_ask.specs.Questions as Q;
-ghost use Rattle.loop_ask.specs.Words as W;
 
-use base::Decided;
 use cap::Cap;
 use loop_header::{Header, State};
-use ring_place::Inside;
 use vec3::{Insides, Vec3};
 
-// Where a place lies, with the test that decided it. A mute loop tests nothing.
 #[derive(Drop)]
 pub enum Placed {
     Refused(u8),
-    Outside(Decided),
-    Inside(Decided),
+    Outside,
+    Inside,
     Mute,
 }
 
@@ -42,14 +36,13 @@ pub fn cleared_cap(c: Cap) -> Cap
     }
 }
 
-fn tell_place(i: Inside) -> Placed
-    ensures { W.worded_placed result ≡ W.answer (P.inside_code i.inside) (decided i.close) }
+fn tell_place(inside: bool) -> Placed
+    ensures { An.toldPlaced result ≡ An.answer (P.inside_code inside) }
 {
-    let by = base::decided_by(i.close);
-    if i.inside {
-        Placed::Inside(by)
+    if inside {
+        Placed::Inside
     } else {
-        Placed::Outside(by)
+        Placed::Outside
     }
 }
 
@@ -62,8 +55,7 @@ pub fn tell(yes: bool) -> Answered
 // Without insides: three corners by their sides, more are mute, and none lie in the full loop alone.
 fn place_without(h: Header, positions: &[f64], normals: &[f64], p: Vec3) -> Placed
     requires { (3 * h.count ≤ length positions.now) × (3 * h.count ≤ length normals.now) }
-    ensures { W.worded_placed result
-        ≡ W.answer (P.place_without h positions.now normals.now p) (decided (C.close_without h normals.now p)) }
+    ensures { An.toldPlaced result ≡ An.answer (P.place_without h positions.now normals.now p) }
 {
     if h.count == 3 {
         return tell_place(ring_place::in_triangle(positions, normals, p));
@@ -73,16 +65,16 @@ fn place_without(h: Header, positions: &[f64], normals: &[f64], p: Vec3) -> Plac
     }
     let state = h.state;
     match state {
-        State::Empty => Placed::Outside(Decided::First),
-        State::Full => Placed::Inside(Decided::First),
-        State::Ring => Placed::Outside(Decided::First),
+        State::Empty => Placed::Outside,
+        State::Full => Placed::Inside,
+        State::Ring => Placed::Outside,
     }
 }
 
 // With insides: by the cap, which long mode does not ask, and the crossings, whatever the count and state.
-fn inside_with(h: Header, a: Vec3, b: Vec3, positions: &[f64], normals: &[f64], p: Vec3) -> Inside
+fn inside_with(h: Header, a: Vec3, b: Vec3, positions: &[f64], normals: &[f64], p: Vec3) -> bool
     requires { (h.count ≤ 512) × (3 * h.count ≤ length positions.now) × (3 * h.count ≤ length normals.now) }
-    ensures { result ≡ C.inside_for h a b positions.now normals.now p }
+    ensures { result ≡ P.inside_with h a b positions.now normals.now p }
 {
     let mode = h.mode;
     let cap = h.cap;
@@ -101,8 +93,7 @@ fn inside_with(h: Header, a: Vec3, b: Vec3, positions: &[f64], normals: &[f64], 
 // The place of a position against a loop that was judged.
 pub fn place(h: Header, positions: &[f64], normals: &[f64], p: Vec3) -> Placed
     requires { (h.count ≤ 512) × (3 * h.count ≤ length positions.now) × (3 * h.count ≤ length normals.now) }
-    ensures { W.worded_placed result
-        ≡ W.answer (P.place_of h positions.now normals.now p) (decided (C.close_place h positions.now normals.now p)) }
+    ensures { An.toldPlaced result ≡ An.answer (P.place_of h positions.now normals.now p) }
 {
     let insides = h.insides;
     match insides {
@@ -129,7 +120,7 @@ pub fn contains_position(
     classes: &[u8],
     p: Vec3,
 ) -> Placed
-    ensures { W.worded_placed result ≡ Q.place_worded h positions.now normals.now classes.now p }
+    ensures { An.toldPlaced result ≡ Q.place_answer h positions.now normals.now classes.now p }
 {
     let q = p.clear();
     let f = query_fault(h, positions, normals, classes, q);

@@ -65,8 +65,8 @@ fn is_inside(p: Placed) -> bool
 {
     match p {
         Placed::Refused(_) => false,
-        Placed::Outside(_) => false,
-        Placed::Inside(_) => true,
+        Placed::Outside => false,
+        Placed::Inside => true,
         Placed::Mute => false,
     }
 }

@@ -8,7 +8,7 @@ use lib.Dec.{ltb}
 use lib.Ieee.{Float}
 use borrow.Author.Tests.{ltb-true, ltb-false, lt-ltb, le-ltb}
 use Rattle.laws.specs.Loop.{first}
-use Rattle.judge.specs.Why.{Exactly, Refuses}
+use Rattle.judge.specs.Why.{Exactly}
 use Rattle.judge.proofs.Exactly.{exactly, then_exact}
 use Rattle.ring_cut.specs.Cut as C
 use Rattle.ring_check.specs.Accepted.{accepted}
@@ -20,12 +20,11 @@ use Rattle.loop_header.specs.declared.Header.{Header}
 use Rattle.loop_header.specs.Loops.{cut_fault}
 use Rattle.loop_header.proofs.Sounds.{cuttable}
 use Rattle.loop_header.proofs.Exact as Header
-use Rattle.loop_ask.specs.Answers.{refused, answer, judged}
+use Rattle.loop_ask.specs.Answers.{Told, refused, answer, judged}
 use Rattle.loop_ask.proofs.Exact.{judged_exact, asked_exact}
 use Rattle.loop_triangles.specs.Triangles.{Outcome, outcome, roomy, cut_told, full_outcome, ring_outcome, state_outcome, outcome_by, triangulate_outcome, accepts_answer}
 use Rattle.loop_triangles.specs.Why.{TrianglesWhy, empty_fits, full_short, full_fits, ring_short, no_ear, ears, TriangulateWhy, Exact}
 use Rattle.loop_triangles.proofs.Outs.{cut_ring}
-use Rattle.loop_triangles.proofs.Words.{worded_exact}
 
 -- ---- what is judged after the loop itself, as a number
 module _ (ps : List Float) (cs : List ℕ) (room : ℕ) where
@@ -112,13 +111,9 @@ module _ (h : Header) (ps : List Float) (cs tris : List ℕ) where
   unfolding triangulate_outcome
   triangulate_told = by_told (cut_fault h ps cs) _ _ tris _ (state_told h.state ps cs tris)
 
-  cut_exact : Refuses refused (triangulate_outcome h ps cs tris).answer (TriangulateWhy h ps cs tris)
-  cut_exact = rw triangulate_told (judged_exact number_exact (count h.state (length cs - 2)))
-
   pub exact : Exact h ps cs tris
   unfolding accepts_answer
   exact = record {
-    triangulate = cut_exact;
-    triangulate_close = worded_exact _ cut_exact;
+    triangulate = rw triangulate_told (judged_exact number_exact (count h.state (length cs - 2)));
     accepts = asked_exact ((Header.exact h ps cs).checking (length tris)) (accepted ps cs tris);
   }

@@ -1,18 +1,15 @@
--- One outcome of each call: over the postconditions of `triangulate`, `triangulate_close` and `accepts` themselves, so that an `ensures` that says less breaks this. Assumes nothing.
+-- One outcome of each call: over the postconditions of `triangulate` and `accepts` themselves, so that an `ensures` that says less breaks this. Assumes nothing.
+use Prim.Native.Nat.{ℕ}
 use mathlib.Core.Path.{◌≡◌, refl, sym, ap, ◌∙◌}
+use mathlib.Core.List.{List}
 use Rattle.outcomes.specs.Outcomes.{One, OneToOne}
 use Rattle.outcomes.proofs.Outcomes.{by_back}
 use Rattle.loop_ask.specs.Answers.{Told, refused, answer}
-use Rattle.loop_ask.specs.Words as W
 use Rattle.loop_ask.proofs.Unique.{one_answered}
 use Rattle.loop_triangles.specs.declared.Cut.{Cut}
 use Rattle.loop_triangles.specs.declared.Cut.TheVariants.{Refused, Triangles}
-use Rattle.loop_triangles.specs.declared.CutClose.{CutClose}
-use Rattle.loop_triangles.specs.declared.CutClose.TheVariants as Close
 use Rattle.loop_triangles.specs.Triangles.{Outcome, told_cut}
-use Rattle.loop_triangles.specs.Close.{CloseOutcome, worded_cut}
 use Rattle.loop_triangles.proofs.triangulate as Cutting
-use Rattle.loop_triangles.proofs.triangulate_close as Worded
 use Rattle.loop_triangles.proofs.accepts as Checking
 
 back : Told → Cut
@@ -27,28 +24,11 @@ there_and_back (Triangles n) = refl
 pub one_cut : OneToOne told_cut
 one_cut = by_back told_cut back there_and_back
 
-back_close : W.Worded → CutClose
-back_close (W.refused k) = Close.Refused k
-back_close (W.answer n d) = Close.Triangles n d
-
-close_and_back : (x : CutClose) → back_close (worded_cut x) ≡ x
-unfolding back_close
-close_and_back (Close.Refused k) = refl
-close_and_back (Close.Triangles n d) = refl
-
-pub one_cut_close : OneToOne worded_cut
-one_cut_close = by_back worded_cut back_close close_and_back
-
 -- the answer, and the triangles at exit
 pub triangulate_unique : One Cutting.Kinds.ps Cutting.Kinds.r Cutting.Reads.Post
 triangulate_unique κs a x y v w p q =
     let e = p ∙ sym q in
     (one_cut x y (ap (λ (o : Outcome). o.answer) e), ap (λ (o : Outcome). (tt, (tt, (tt, (o.triangles, tt))))) e)
-
-pub triangulate_close_unique : One Worded.Kinds.ps Worded.Kinds.r Worded.Reads.Post
-triangulate_close_unique κs a x y v w p q =
-    let e = p ∙ sym q in
-    (one_cut_close x y (ap (λ (o : CloseOutcome). o.answer) e), ap (λ (o : CloseOutcome). (tt, (tt, (tt, (o.triangles, tt))))) e)
 
 pub accepts_unique : One Checking.Kinds.ps Checking.Kinds.r Checking.Reads.Post
 accepts_unique κs a x y v w p q = (one_answered x y (p ∙ sym q), refl)

@@ -1,4 +1,3 @@
 pub mod Triangles
-pub mod Close
 pub mod Demand
 pub mod Why

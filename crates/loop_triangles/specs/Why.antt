@@ -8,9 +8,7 @@ use Rattle.loop_header.specs.declared.State.TheVariants.{Empty, Full, Ring}
 use Rattle.loop_header.specs.declared.Header.{Header}
 use Rattle.loop_header.specs.Why.{CutWhy, CheckWhy}
 use Rattle.loop_ask.specs.Answers.{refused}
-use Rattle.loop_ask.specs.Words as W
 use Rattle.loop_triangles.specs.Triangles.{triangulate_outcome, accepts_answer}
-use Rattle.loop_triangles.specs.Close.{triangulate_close_outcome}
 
 -- of n corners, with room for so many numbers
 pub data TrianglesWhy (n room : ℕ) (ps : List Float) (cs : List ℕ) : State → ℕ → Type 0 where
@@ -31,6 +29,4 @@ TriangulateWhy h ps cs tris = Then (CutWhy h ps cs) (TrianglesWhy h.count (lengt
 -- SCOPE 25: each is given exactly when
 pub record Exact (h : Header) (ps : List Float) (cs tris : List ℕ) : Type 0 where
   pub triangulate : Refuses refused (triangulate_outcome h ps cs tris).answer (TriangulateWhy h ps cs tris)
-  -- the word changes no refusal
-  pub triangulate_close : Refuses W.refused (triangulate_close_outcome h ps cs tris).answer (TriangulateWhy h ps cs tris)
   pub accepts : Refuses refused (accepts_answer h ps cs tris) (CheckWhy h ps cs (length tris))

@@ -2,12 +2,8 @@
 ghost use Rattle.std.specs.Prelude.{◌≡◌, ◌-◌, ◌*◌};
 ghost use Rattle.ring_cut.specs.Cut.{Ring};
 ghost use Rattle.loop_ask.specs.Answers as An;
-ghost use Rattle.base.specs.Close.{decided};
-ghost use Rattle.loop_header.specs.Loops.{cut_fault};
 ghost use Rattle.loop_triangles.specs.Triangles as Tri;
-ghost use Rattle.loop_triangles.specs.Close as Cl;
 
-use base::Decided;
 use loop_ask::Answered;
 use loop_header::{Header, State};
 
@@ -15,13 +11,6 @@ use loop_header::{Header, State};
 pub enum Cut {
     Refused(u8),
     Triangles(usize),
-}
-
-// The same, with the word of its side tests.
-#[derive(Drop)]
-pub enum CutClose {
-    Refused(u8),
-    Triangles(usize, Decided),
 }
 
 // The full loop: 20 triples over the recorded 12 positions.
@@ -64,35 +53,6 @@ pub fn triangulate(h: Header, positions: &[f64], classes: &[u8], triangles: &mut
         State::Empty => Cut::Triangles(0),
         State::Full => cut_full(triangles),
         State::Ring => cut_corners(positions, classes, triangles),
-    }
-}
-
-// The word of a loop that can be cut.
-fn word(h: Header, positions: &[f64], classes: &[u8]) -> Decided
-    requires { cut_fault h positions.now classes.now ≡ 0 }
-    ensures { result ≡ decided (Cl.close_triangles h positions.now classes.now) }
-{
-    let state = h.state;
-    match state {
-        State::Empty => Decided::First,
-        State::Full => Decided::First,
-        State::Ring => base::decided_by(ring_close::is_close(positions, classes)),
-    }
-}
-
-// `triangulate`, and the word: by the plain scan over the same cuts, since the triangles are found by fewer tests.
-pub fn triangulate_close(
-    h: Header,
-    positions: &[f64],
-    classes: &[u8],
-    triangles: &mut [u16],
-) -> CutClose
-    ensures { record { answer = Cl.worded_cut result; triangles = triangles.new } ≡ Cl.triangulate_close_outcome h positions.now classes.now triangles.old }
-{
-    let c = triangulate(h, positions, classes, triangles);
-    match c {
-        Cut::Refused(f) => CutClose::Refused(f),
-        Cut::Triangles(n) => CutClose::Triangles(n, word(h, positions, classes)),
     }
 }
 

@@ -1,4 +1,3 @@
 pub mod Clears
 pub mod Missing
 pub mod Opposites
-pub mod Skips

@@ -35,7 +35,7 @@ past_either_lem s e true left h f g = rw (f refl)
 past_either_lem s e false true h f g = rw (g refl) (past_end_lem s)
 past_either_lem s e false false h f g = absurd (false≢true h)
 
-pub both : (b c : Bool) → b && c ≡ true → (b ≡ true) × (c ≡ true)
+both : (b c : Bool) → b && c ≡ true → (b ≡ true) × (c ≡ true)
 both true true h = (refl, refl)
 both true false h = absurd (false≢true h)
 both false c h = absurd (false≢true h)
@@ -50,12 +50,12 @@ nearer_stored s i h = stored_if (lt zero (dot s i))
 
 -- ---- one arc
 -- each point that the mode tries is exterior to it
-abbrev pub Exteriors : Mode → MinorArc → Vec3 → Type 0
+abbrev Exteriors : Mode → MinorArc → Vec3 → Type 0
 Exteriors Plain a p = location_of a p ≡ Exterior
 Exteriors Long a p = (location_of a p ≡ Exterior) × (location_of a (opposite p) ≡ Exterior)
 
 module _ (a : MinorArc) where
-  pub outside : (p : Vec3) → beyond_at Plain a p ≡ true → location_of a p ≡ Exterior
+  outside : (p : Vec3) → beyond_at Plain a p ≡ true → location_of a p ≡ Exterior
   unfolding location_of
   outside p h =
       past_either_lem (side_of p a.normal a.start) (side_of p a.normal a.end)
@@ -63,14 +63,14 @@ module _ (a : MinorArc) where
       (settled_right p a.normal a.start) (settled_left p a.normal a.end)
 
   -- the products of the opposite point are the negated ones, but for a zero's sign
-  pub opposite_beyond : (p : Vec3) → Stored p → beyond_at Plain a (opposite p) ≡ beyond (neg (dot p (cross a.normal a.start))) (neg (dot p (cross a.normal a.end)))
+  opposite_beyond : (p : Vec3) → Stored p → beyond_at Plain a (opposite p) ≡ beyond (neg (dot p (cross a.normal a.start))) (neg (dot p (cross a.normal a.end)))
   opposite_beyond p s =
       let start = cross a.normal a.start in
       let end = cross a.normal a.end in
       ap₂ ◌||◌ (settles_right_level (dot (opposite p) start) (neg (dot p start)) (dot_opposite p start s))
       (settles_left_level (dot (opposite p) end) (neg (dot p end)) (dot_opposite p end s))
 
-  pub exteriors : (mode : Mode) (p : Vec3) → Stored p → beyond_at mode a p ≡ true → Exteriors mode a p
+  exteriors : (mode : Mode) (p : Vec3) → Stored p → beyond_at mode a p ≡ true → Exteriors mode a p
   exteriors Plain p s h = outside p h
   exteriors Long p s h =
       let negated = beyond (neg (dot p (cross a.normal a.start))) (neg (dot p (cross a.normal a.end))) in
@@ -111,14 +111,14 @@ candidate_stored a b e = rw e (stable_stored a.normal b.normal)
 
 -- with the unit vector of the normals' product at hand
 module _ (mode : Mode) (a b : MinorArc) {i : Vec3} (e : i ≡ stable_unit a.normal b.normal) where
-  pub stored : Stored (nearer a.start i)
+  stored : Stored (nearer a.start i)
   stored = nearer_stored a.start i (candidate_stored a b e)
 
   pub missed_apart : missed mode a i ≡ true → tried mode a b (nearer a.start i) ≡ M.Apart
   unfolding missed
   missed_apart h = first_apart a b mode (nearer a.start i) (exteriors a mode (nearer a.start i) stored h)
 
-  pub other_apart : missed_other mode a b i ≡ true → tried mode a b (nearer a.start i) ≡ M.Apart
+  other_apart : missed_other mode a b i ≡ true → tried mode a b (nearer a.start i) ≡ M.Apart
   unfolding missed_other
   other_apart h = second_apart a b mode (nearer a.start i) (exteriors b mode (nearer a.start i) stored h)
 

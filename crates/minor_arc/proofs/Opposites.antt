@@ -27,7 +27,7 @@ is_interior Interior = true
 is_interior Exterior = false
 
 -- what is interior is left of the start
-pub interior_left : (s e : Side) → located s e ≡ Interior → s ≡ Left
+interior_left : (s e : Side) → located s e ≡ Interior → s ≡ Left
 interior_left Left e h = refl
 interior_left Right e h = absurd (false≢true (ap is_interior h))
 interior_left Collinear Left h = absurd (false≢true (ap is_interior h))

@@ -1,10 +1,9 @@
 // Minor arcs, as spherical/minor_arc.rs has them: two positions and a normal, by value. Total on every float: a NaN fails each comparison.
 // The functions of crate `arcs` judge what they are handed; those here do not, and are what loops call.
-ghost use Rattle.std.specs.Prelude.{◌≡◌, ◌||◌};
+ghost use Rattle.std.specs.Prelude.{◌≡◌};
 ghost use Rattle.vec3.specs.Vec.{stable_unit};
 ghost use Rattle.signs.specs.Mirrors.{Stored};
 ghost use Rattle.minor_arc.specs.Arcs as Arcs;
-ghost use Rattle.minor_arc.specs.Close as Close;
 
 use base::Side;
 use vec3::{Point, Vec3};
@@ -31,27 +30,6 @@ pub enum Meeting {
     Collinear,
     Crossing(Vec3),
     Touching(Vec3),
-}
-
-// Where a point lies, and whether a side test taken for it needed the retest.
-#[derive(Drop)]
-pub struct Located {
-    pub location: Location,
-    pub close: bool,
-}
-
-// Where two arcs meet, and whether a side test taken for it did.
-#[derive(Drop)]
-pub struct Encounter {
-    pub meeting: Meeting,
-    pub close: bool,
-}
-
-// The point in which two arcs meet, and whether a side test taken for it did.
-#[derive(Drop)]
-pub struct Hit {
-    pub at: Point,
-    pub close: bool,
 }
 
 // Which of the two points are tried in which two great circles meet: the one on the side of the first arc's start alone, as in the source, or both.
@@ -90,6 +68,16 @@ pub fn is_within(l: Location) -> bool
     }
 }
 
+fn is_interior(l: Location) -> bool
+    ensures { result ≡ Arcs.interior l }
+{
+    match l {
+        Location::Exterior => false,
+        Location::Endpoint => false,
+        Location::Interior => true,
+    }
+}
+
 // Of i and its opposite the one on the side of s: the opposite where the product is not above 0.
 fn nearer(s: Vec3, i: Vec3) -> Vec3
     ensures { result ≡ Arcs.nearer s i }
@@ -101,17 +89,16 @@ fn nearer(s: Vec3, i: Vec3) -> Vec3
 fn beyond(s: f64, e: f64) -> bool
     ensures { result ≡ Arcs.beyond s e }
 {
-    (!base::is_small(s) & !(s > 0.0)) | (!base::is_small(e) & (e > 0.0))
+    base::settles_right(s) | base::settles_left(e)
 }
 
-// The same of each point that the mode tries, where no side test taken for it needs the retest either: of a point that is right of the start the end is not
-// asked. The products of the opposite point are the negated ones, so no product is worked out again.
-fn skipped_by(mode: Mode, s: f64, e: f64) -> bool
-    ensures { result ≡ Close.skipped_by mode s e }
+// The same of each point that the mode tries: the products of the opposite point are the negated ones, so no product is worked out again.
+fn beyond_by(mode: Mode, s: f64, e: f64) -> bool
+    ensures { result ≡ Arcs.beyond_by mode s e }
 {
     if beyond(s, e) {
         match mode {
-            Mode::Plain => !base::is_small(s),
+            Mode::Plain => true,
             Mode::Long => beyond(-s, -e),
         }
     } else {
@@ -149,24 +136,11 @@ fn rank(m: Meeting) -> u8
     }
 }
 
-// Of two points the better meeting, close where either is: an interior meeting outranks a touch, and of two equal kinds the first is taken.
-fn better(m: Encounter, n: Encounter) -> Encounter
-    ensures { result ≡ record { meeting = Arcs.better m.meeting n.meeting; close = m.close || n.close } }
+// An interior meeting outranks a touch; of two equal kinds the first is taken.
+fn better(m: Meeting, n: Meeting) -> Meeting
+    ensures { result ≡ Arcs.better m n }
 {
-    let one = m.meeting;
-    let other = n.meeting;
-    let close = m.close | n.close;
-    if rank(one) < rank(other) {
-        Encounter {
-            meeting: other,
-            close,
-        }
-    } else {
-        Encounter {
-            meeting: one,
-            close,
-        }
-    }
+    if rank(m) < rank(n) { n } else { m }
 }
 
 impl MinorArc {
@@ -205,41 +179,15 @@ impl MinorArc {
         if d < 0.0 { Side::Right } else { Side::Left }
     }
 
-    // Where a point of this arc's great circle lies: the source's `triage_on_minor_arc`. Its end is asked where it is not right of the start.
-    pub fn located(self, v: Vec3) -> Located
-        ensures { result ≡ Close.located_of self v }
-    {
-        let s = base::side_test(v, self.normal, self.start);
-        let side = s.side;
-        let by = s.by;
-        if let Side::Right = side {
-            return Located {
-                location: Location::Exterior,
-                close: base::is_retest(by),
-            };
-        }
-        let e = base::side_test(v, self.normal, self.end);
-        let other = e.side;
-        let other_by = e.by;
-        let location = locate(side, other);
-        if base::is_retest(other_by) {
-            return Located {
-                location,
-                close: true,
-            };
-        }
-        Located {
-            location,
-            close: base::is_retest(by),
-        }
-    }
-
-    // The location alone.
+    // Where a point of this arc's great circle lies: the source's `triage_on_minor_arc`.
     pub fn location(self, v: Vec3) -> Location
         ensures { result ≡ Arcs.location_of self v }
     {
-        let l = self.located(v);
-        l.location
+        let s = base::side_of(v, self.normal, self.start);
+        if let Side::Right = s {
+            return Location::Exterior;
+        }
+        locate(s, base::side_of(v, self.normal, self.end))
     }
 
     // Whether p is on this arc, its ends included.
@@ -253,40 +201,30 @@ impl MinorArc {
         }
     }
 
-    // What this arc has in p with another, on which p lies at l: it is asked where p is not exterior to the other.
-    fn met(self, p: Vec3, l: Located) -> Encounter
-        ensures { result ≡ Close.met_at p l (Close.located_of self p) }
+    // What this arc has in p with another, on which p lies at l.
+    fn met(self, p: Vec3, l: Location) -> Meeting
+        ensures { result ≡ Arcs.meet_at p l (Arcs.location_of self p) }
     {
-        let location = l.location;
-        if let Location::Exterior = location {
-            return Encounter {
-                meeting: Meeting::Apart,
-                close: l.close,
-            };
+        if let Location::Exterior = l {
+            return Meeting::Apart;
         }
-        let here = self.located(p);
-        let other = here.location;
-        Encounter {
-            meeting: meet_at(p, location, other),
-            close: l.close | here.close,
-        }
+        meet_at(p, l, self.location(p))
     }
 
-    fn meeting_in(self, o: MinorArc, p: Vec3) -> Encounter
-        ensures { result ≡ record { meeting = Arcs.meeting_in self o p; close = Close.close_in self o p } }
+    fn meeting_in(self, o: MinorArc, p: Vec3) -> Meeting
+        ensures { result ≡ Arcs.meeting_in self o p }
     {
-        o.met(p, self.located(p))
+        o.met(p, self.location(p))
     }
 
-    // By the points that the mode tries. What is interior to this arc has its opposite exterior to it, by the same products: then the modes agree.
-    fn tried(self, mode: Mode, o: MinorArc, p: Vec3) -> Encounter
+    // By the points that the mode tries. What is interior to this arc has its opposite exterior to it: then the modes agree.
+    fn tried(self, mode: Mode, o: MinorArc, p: Vec3) -> Meeting
         requires { Stored p }
-        ensures { result ≡ record { meeting = Arcs.tried mode self o p; close = Close.close_tried mode self o p } }
+        ensures { result ≡ Arcs.tried mode self o p }
     {
-        let l = self.located(p);
-        let location = l.location;
-        if let Location::Interior = location {
-            return o.met(p, l);
+        let l = self.location(p);
+        if is_interior(l) {
+            return meet_at(p, l, o.location(p));
         }
         match mode {
             Mode::Plain => o.met(p, l),
@@ -294,76 +232,59 @@ impl MinorArc {
         }
     }
 
-    // Whether p, and in long mode its opposite too, lies beyond an end of this arc for sure, by first tests alone.
-    fn is_skipped(self, mode: Mode, p: Vec3) -> bool
-        ensures { result ≡ Close.skipped_at mode self p }
+    // Whether p, and in long mode its opposite too, lies beyond an end of this arc for sure.
+    fn is_past(self, mode: Mode, p: Vec3) -> bool
+        ensures { result ≡ Arcs.beyond_at mode self p }
     {
         let s = p.dot_prod(self.normal.cross_prod(self.start));
         let e = p.dot_prod(self.normal.cross_prod(self.end));
-        skipped_by(mode, s, e)
+        beyond_by(mode, s, e)
     }
 
-    // The same of i and its opposite, each one that the mode tries: one test that settles most of them.
-    pub fn skips(self, mode: Mode, i: Vec3) -> bool
-        ensures { result ≡ Close.skipped mode self i }
+    // Whether of i and its opposite each one that the mode tries lies beyond an end of this arc for sure: one test that settles most of them.
+    pub fn misses(self, mode: Mode, i: Vec3) -> bool
+        ensures { result ≡ Arcs.missed mode self i }
     {
-        self.is_skipped(mode, nearer(self.start, i))
+        self.is_past(mode, nearer(self.start, i))
     }
 
     // The same of the other arc: it settles most of those that are left.
-    pub fn skips_other(self, mode: Mode, o: MinorArc, i: Vec3) -> bool
-        ensures { result ≡ Close.skipped_other mode self o i }
+    pub fn misses_other(self, mode: Mode, o: MinorArc, i: Vec3) -> bool
+        ensures { result ≡ Arcs.missed_other mode self o i }
     {
-        o.is_skipped(mode, nearer(self.start, i))
-    }
-
-    // Whether no side test of this arc needs the retest, wherever its point lies.
-    pub fn is_settled(self, i: Vec3) -> bool
-        ensures { result ≡ Close.settled_for self i }
-    {
-        let p = nearer(self.start, i);
-        let s = p.dot_prod(self.normal.cross_prod(self.start));
-        let e = p.dot_prod(self.normal.cross_prod(self.end));
-        !base::is_small(s) & !base::is_small(e)
+        o.is_past(mode, nearer(self.start, i))
     }
 
     // The source's `intersection_details`, with the unit vector of the normals' product at hand, as a caller has it who works out many of them first. The
     // great circles meet in a point and its opposite; in plain mode the one on the side of this arc's start is the only candidate.
-    pub fn encounter_at(self, mode: Mode, o: MinorArc, i: Vec3) -> Encounter
+    pub fn meeting_at(self, mode: Mode, o: MinorArc, i: Vec3) -> Meeting
         requires { i ≡ stable_unit self.normal o.normal }
-        ensures { result ≡ Close.encounter_of mode self o }
+        ensures { result ≡ Arcs.meeting_of mode self o }
     {
         if i.equals(Vec3::ZERO) {
-            Encounter {
-                meeting: Meeting::Collinear,
-                close: false,
-            }
+            Meeting::Collinear
         } else {
             self.tried(mode, o, nearer(self.start, i))
         }
     }
 
     // `intersection` with that vector at hand.
-    pub fn hit_at(self, mode: Mode, o: MinorArc, i: Vec3) -> Hit
+    pub fn intersection_at(self, mode: Mode, o: MinorArc, i: Vec3) -> Point
         requires { i ≡ stable_unit self.normal o.normal }
-        ensures { result ≡ Close.hit_of mode self o }
+        ensures { result ≡ Arcs.meeting_point (Arcs.meeting_of mode self o) }
     {
-        let e = self.encounter_at(mode, o, i);
-        let meeting = e.meeting;
-        let at = match meeting {
+        match self.meeting_at(mode, o, i) {
             Meeting::Apart => Point::Absent,
             Meeting::Collinear => Point::Absent,
             Meeting::Crossing(p) => Point::At(p),
             Meeting::Touching(p) => Point::At(p),
-        };
-        Hit { at, close: e.close }
+        }
     }
 
     // The point in which the two arcs meet; none where they are collinear.
     pub fn intersection(self, mode: Mode, o: MinorArc) -> Point
         ensures { result ≡ Arcs.meeting_point (Arcs.meeting_of mode self o) }
     {
-        let h = self.hit_at(mode, o, self.normal.stable_cross_prod_unit(o.normal));
-        h.at
+        self.intersection_at(mode, o, self.normal.stable_cross_prod_unit(o.normal))
     }
 }

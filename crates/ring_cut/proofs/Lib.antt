@@ -4,4 +4,3 @@ pub mod Steps
 pub mod Goings
 pub mod Relations
 pub mod Wholes
-pub mod Close

@@ -1,4 +1,3 @@
 pub mod Ears
 pub mod Changes
 pub mod Branches
-pub mod Close

@@ -2,12 +2,10 @@
 // what is left of it is a list of ring numbers, and the classes by ring number. Total on every float.
 ghost use Rattle.std.specs.Prelude.{◌≡◌, ◌++◌, ◌+◌, ◌-◌, ◌*◌, ◌≤◌, ◌<◌, length, get_or, drop};
 ghost use Rattle.ring_theory.specs.Ring.{without};
-ghost use Rattle.ring_ears.specs.Ears.{Lent, corner, convex, triangle_at, Indexed, ear, class_of, turn_of, reclassify, reclassify_both, cut_in};
-ghost use Rattle.ring_ears.specs.Close.{blocked_test, ear_test};
+ghost use Rattle.ring_ears.specs.Ears.{Lent, corner, convex, triangle_at, Indexed, blocks, blocked, ear, class_of, turn_of, reclassify, reclassify_both, cut_in};
 ghost use Rattle.ring_ears.specs.Changes.{differ, changed, one_changed};
 
 use base::Side;
-use ring_triangle::Inner;
 use vec3::Vec3;
 
 // The corners of the triangle at an index: the one before, its own, the one after.
@@ -16,13 +14,6 @@ pub struct Triangle {
     pub previous: Vec3,
     pub this: Vec3,
     pub next: Vec3,
-}
-
-// Whether an index is an eligible ear, and whether a side test taken for that needed the retest.
-#[derive(Drop)]
-pub struct Ear {
-    pub eligible: bool,
-    pub close: bool,
 }
 
 // The position of the corner at index i.
@@ -54,57 +45,39 @@ pub fn triangle_at(ps: &[f64], ids: &[u16], i: usize) -> Triangle
     }
 }
 
-// Whether one corner of the ring left is of another class than convex, and inside or on an edge of the triangle. None is tested past the first that is.
-fn blocked_tested(ps: &[f64], ids: &[u16], classes: &[u8], t: Triangle) -> Inner
-    requires { Lent ps.now ids.now classes.now }
-    ensures { result ≡ blocked_test ps.now ids.now classes.now t }
+// Whether the corner at index j is of another class than convex, and inside or on an edge of the triangle.
+fn is_block(ps: &[f64], ids: &[u16], classes: &[u8], t: Triangle, j: usize) -> bool
+    requires { (j < length ids.now) × (get_or ids.now j 0 < length classes.now) × (length ps.now ≡ 3 * length classes.now) }
+    ensures { result ≡ blocks ps.now ids.now classes.now t j }
 {
-    let mut close = false;
+    if is_convex(ids, classes, j) {
+        return false;
+    }
+    ring_triangle::inside_or_edge(corner_at(ps, ids, j), t.previous, t.this, t.next)
+}
+
+// Whether one corner of the ring left is.
+fn is_blocked(ps: &[f64], ids: &[u16], classes: &[u8], t: Triangle) -> bool
+    requires { Lent ps.now ids.now classes.now }
+    ensures { result ≡ blocked ps.now ids.now classes.now t }
+{
     for j in 0..ids.len() {
-        if is_convex(ids, classes, j) {
-            continue;
-        }
-        let p = corner_at(ps, ids, j);
-        let b = ring_triangle::inside_tested(p, t.previous, t.this, t.next);
-        close = close | b.close;
-        if b.inside {
-            return Inner {
-                inside: true,
-                close: close,
-            };
+        if is_block(ps, ids, classes, t, j) {
+            return true;
         }
     }
-    Inner {
-        inside: false,
-        close: close,
-    }
+    false
 }
 
 // Whether index i is an eligible ear.
-pub fn ear_tested(ps: &[f64], ids: &[u16], classes: &[u8], i: usize) -> Ear
-    requires { Lent ps.now ids.now classes.now × (i < length ids.now) }
-    ensures { result ≡ ear_test ps.now ids.now classes.now i }
-{
-    if is_convex(ids, classes, i) {
-        let b = blocked_tested(ps, ids, classes, triangle_at(ps, ids, i));
-        return Ear {
-            eligible: !b.inside,
-            close: b.close,
-        };
-    }
-    Ear {
-        eligible: false,
-        close: false,
-    }
-}
-
-// That alone.
 pub fn is_ear(ps: &[f64], ids: &[u16], classes: &[u8], i: usize) -> bool
     requires { Lent ps.now ids.now classes.now × (i < length ids.now) }
     ensures { result ≡ ear ps.now ids.now classes.now i }
 {
-    let e = ear_tested(ps, ids, classes, i);
-    e.eligible
+    if is_convex(ids, classes, i) {
+        return !is_blocked(ps, ids, classes, triangle_at(ps, ids, i));
+    }
+    false
 }
 
 // Takes the number at index i out; the last index keeps its own.

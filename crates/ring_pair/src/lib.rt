@@ -70,7 +70,7 @@ fn uncrossed(touched: bool) -> Contact
     }
 }
 
-// How an arc relates to edge j of a ring, with its candidate c at hand: an edge whose candidate the arc passes over is not read.
+// How an arc relates to edge j of a ring, with its candidate c at hand: an edge whose candidate misses the arc is not read.
 fn relation_at(
     mode: Mode,
     a: MinorArc,
@@ -83,7 +83,7 @@ fn relation_at(
     requires { (j < m) × (m ≤ 512) × (3 * m ≤ length others.now) × (3 * m ≤ length theirs.now) × (c ≡ B.candidate_at a.normal theirs.now j) }
     ensures { result ≡ relation_of mode a (edge_at others.now theirs.now m j) }
 {
-    if a.skips(mode, c) {
+    if a.misses(mode, c) {
         if !c.equals(Vec3::ZERO) {
             return MinorArcRelation::Disjoint;
         }

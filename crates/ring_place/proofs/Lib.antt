@@ -1,4 +1,3 @@
 pub mod Above
 pub mod Nest
-pub mod Walks
 pub mod Examples

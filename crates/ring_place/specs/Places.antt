@@ -68,17 +68,11 @@ unfoldable pub inside_by : Mode → Cap → Vec3 → Vec3 → List Float → Lis
 inside_by mode cap a b ps ns n p = admits mode cap p && (same p a || same p b || crossed_evenly mode (arc_of (from a b p) p) ps ns n)
 
 -- a ring is clockwise, so inside is on the right of each edge, by more than 2^-52
-abbrev pub product : List Float → ℕ → Vec3 → Float
-product ns i p = dot p (pos_at ns i)
-
 abbrev pub depth : List Float → ℕ → Vec3 → Float
-depth ns i p = neg (product ns i p)
-
-abbrev pub deep : Float → Bool
-deep t = lt epsilon (neg t)
+depth ns i p = neg (dot p (pos_at ns i))
 
 abbrev pub within : List Float → ℕ → Vec3 → Bool
-within ns i p = deep (product ns i p)
+within ns i p = lt epsilon (depth ns i p)
 
 -- SCOPE 21, three corners: no corner, and right of each edge
 unfoldable pub in_triangle : List Float → List Float → Vec3 → Bool

@@ -4,10 +4,10 @@ use mathlib.Core.Bool.{Bool, true, false, not, ◌&&◌}
 use Rattle.vec3.specs.declared.Vec3.{Vec3}
 use Rattle.base.specs.declared.Side.{Side}
 use Rattle.base.specs.declared.Side.TheVariants.{Left, Right, Collinear}
-use Rattle.base.specs.Sides.{is_right, surely_right}
+use Rattle.base.specs.Sides.{surely_right}
 use Rattle.base.proofs.Surely.{surely_right_lem}
 use Rattle.ring_ears.specs.declared.Triangle.{Triangle}
-use Rattle.ring_triangle.specs.Inside.{fits, edge_side, fits_edges, is_corner, inside_or_edge}
+use Rattle.ring_triangle.specs.Inside.{is_right, fits, edge_side, fits_edges, is_corner, inside_or_edge}
 use Rattle.ring_ears.specs.Ears.{turn_of}
 use Rattle.ring_reflex.specs.Apart.{normal_if, far_normal}
 

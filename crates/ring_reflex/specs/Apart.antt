@@ -4,8 +4,7 @@ use Rattle.std.specs.Prelude.{ℕ, ◌+◌, Bool, true, false, List, [], ◌∷�
 use Rattle.laws.specs.Loop.{any_of}
 use Rattle.vec3.specs.declared.Vec3.{Vec3}
 use Rattle.vec3.specs.Vec.{cross}
-use Rattle.base.specs.Sides.{is_right}
-use Rattle.ring_triangle.specs.Inside.{inside_or_edge}
+use Rattle.ring_triangle.specs.Inside.{is_right, inside_or_edge}
 use Rattle.ring_ears.specs.declared.Triangle.{Triangle}
 use Rattle.ring_ears.specs.Ears.{corner, turn_of}
 

@@ -13,7 +13,7 @@ use vec3::Vec3;
 fn far_normal(t: Triangle) -> Vec3
     ensures { result ≡ far_normal t }
 {
-    if base::is_right(base::side_of(t.previous, t.this, t.next)) {
+    if ring_triangle::is_right(base::side_of(t.previous, t.this, t.next)) {
         t.previous.cross_prod(t.next)
     } else {
         t.next.cross_prod(t.previous)
@@ -103,10 +103,8 @@ pub fn cut_apart(
     k: usize,
     i: usize,
 ) -> usize
-    requires { Lent ps.now ids.old classes.old × (i < length ids.old) × (convex ids.old classes.old i ≡ true)
-        × (take k apart.old ≡ apart_of ids.old classes.old) × (k ≤ length apart.old) × (length ids.old ≤ length apart.old) }
-    ensures { (record { ids = ids.exit.now; classes = classes.new } ≡ cut_in ps.now (record { ids = ids.entry.now; classes = classes.old }) i)
-        × (take result apart.new ≡ apart_of (without i ids.entry.now) classes.new) × (result ≤ length apart.old) }
+    requires { Lent ps.now ids.old classes.old × (i < length ids.old) × (convex ids.old classes.old i ≡ true) × (take k apart.old ≡ apart_of ids.old classes.old) × (k ≤ length apart.old) × (length ids.old ≤ length apart.old) }
+    ensures { (record { ids = ids.exit.now; classes = classes.new } ≡ cut_in ps.now (record { ids = ids.entry.now; classes = classes.old }) i) × (take result apart.new ≡ apart_of (without i ids.entry.now) classes.new) × (result ≤ length apart.old) }
 {
     let m = ids.len() - 1;
     if ring_ears::cut_told(ps, ids, classes, i) {

@@ -56,8 +56,8 @@ follows_below (on e h) = (omega arith, h)
 follows_below (round e h) = (omega arith, omega arith)
 
 module _ (ids : List ℕ) (inc : Increasing ids) where
-  up_to_lem : (j k : ℕ) → j ≤ k → k < length ids → nth ids j ≤ nth ids k
-  up_to_lem j k h l = go (dec_lt j k)
+  up_to : (j k : ℕ) → j ≤ k → k < length ids → nth ids j ≤ nth ids k
+  up_to j k h l = go (dec_lt j k)
     where
       go : Dec (j < k) → nth ids j ≤ nth ids k
       go (yes m) = omega (arith, inc j k m l)
@@ -89,13 +89,13 @@ module _ (ids : List ℕ) (inc : Increasing ids) where
       bare (on e h) k l (straight x y) = go (dec_lt i k)
         where
           go : Dec (i < k) → ⊥
-          go (yes n) = omega (arith, up_to_lem j k (omega arith) l)
-          go (no n) = omega (arith, up_to_lem k i (omega arith) (omega arith))
+          go (yes n) = omega (arith, up_to j k (omega arith) l)
+          go (no n) = omega (arith, up_to k i (omega arith) (omega arith))
       bare (on e h) k l (over x y) = omega (arith, inc i j (omega arith) h)
       bare (on e h) k l (after x y) = omega (arith, inc i j (omega arith) h)
       bare (round e h) k l (straight x y) = omega (arith, inc j i (omega arith) (omega arith))
-      bare (round e h) k l (over x y) = omega (arith, up_to_lem k i (omega arith) (omega arith))
-      bare (round e h) k l (after x y) = omega (arith, up_to_lem j k (omega arith) l)
+      bare (round e h) k l (over x y) = omega (arith, up_to k i (omega arith) (omega arith))
+      bare (round e h) k l (after x y) = omega (arith, up_to j k (omega arith) l)
 
   module _ (i : ℕ) (h : i < length ids) where
     size : length (without i ids) ≡ length ids - 1

@@ -4,7 +4,12 @@ use Rattle.vec3.specs.declared.Vec3.{Vec3}
 use Rattle.vec3.specs.Vec.{same}
 use Rattle.base.specs.declared.Side.{Side}
 use Rattle.base.specs.declared.Side.TheVariants.{Left, Right, Collinear}
-use Rattle.base.specs.Sides.{is_right, side_of}
+use Rattle.base.specs.Sides.{side_of}
+
+abbrev pub is_right : Side → Bool
+is_right Left = false
+is_right Right = true
+is_right Collinear = false
 
 -- 1 for collinear, else 0
 abbrev pub collinears : Side → ℕ

@@ -1,16 +1,18 @@
 // Whether a position is inside a triangle or on an edge of it, as sloop.rs has it. Total on every float.
 ghost use Rattle.std.specs.Prelude.{◌≡◌, ◌≤◌};
-ghost use Rattle.ring_triangle.specs.Inside.{collinears, fits, is_corner, inside_or_edge};
-ghost use Rattle.ring_triangle.specs.Close.{edge_test, edges_test, inner_of};
+ghost use Rattle.ring_triangle.specs.Inside.{is_right, collinears, fits, edge_side, fits_edges, is_corner, inside_or_edge};
 
-use base::{Side, Tested};
+use base::Side;
 use vec3::Vec3;
 
-// Whether a position is in a triangle, and whether a side test taken for that needed the retest.
-#[derive(Drop)]
-pub struct Inner {
-    pub inside: bool,
-    pub close: bool,
+pub fn is_right(s: Side) -> bool
+    ensures { result ≡ is_right s }
+{
+    match s {
+        Side::Left => false,
+        Side::Right => true,
+        Side::Collinear => false,
+    }
 }
 
 // 1 for collinear, else 0.
@@ -28,39 +30,30 @@ fn collinear(s: Side) -> u8
 fn sides_fit(a: Side, b: Side, c: Side) -> bool
     ensures { result ≡ fits a b c }
 {
-    if base::is_right(a) | base::is_right(b) | base::is_right(c) {
+    if is_right(a) | is_right(b) | is_right(c) {
         return false;
     }
     collinear(a) + collinear(b) + collinear(c) < 2
 }
 
-// The side of p against the edge from u to v, whose ends are exchanged where the triangle is clockwise, and which test decided it.
-fn clockwise_side(clockwise: bool, p: Vec3, u: Vec3, v: Vec3) -> Tested
-    ensures { result ≡ edge_test clockwise p u v }
+// The side of p against the edge from u to v, whose ends are exchanged where the triangle is clockwise.
+fn clockwise_side(clockwise: bool, p: Vec3, u: Vec3, v: Vec3) -> Side
+    ensures { result ≡ edge_side clockwise p u v }
 {
     if clockwise {
-        base::side_test(p, v, u)
+        base::side_of(p, v, u)
     } else {
-        base::side_test(p, u, v)
+        base::side_of(p, u, v)
     }
 }
 
-fn edges_tested(clockwise: bool, p: Vec3, a: Vec3, b: Vec3, c: Vec3) -> Inner
-    ensures { result ≡ edges_test clockwise p a b c }
+fn edges_fit(clockwise: bool, p: Vec3, a: Vec3, b: Vec3, c: Vec3) -> bool
+    ensures { result ≡ fits_edges clockwise p a b c }
 {
-    let t1 = clockwise_side(clockwise, p, a, b);
-    let t2 = clockwise_side(clockwise, p, b, c);
-    let t3 = clockwise_side(clockwise, p, c, a);
-    let side1 = t1.side;
-    let side2 = t2.side;
-    let side3 = t3.side;
-    let by1 = t1.by;
-    let by2 = t2.by;
-    let by3 = t3.by;
-    Inner {
-        inside: sides_fit(side1, side2, side3),
-        close: base::is_retest(by1) | base::is_retest(by2) | base::is_retest(by3),
-    }
+    let side1 = clockwise_side(clockwise, p, a, b);
+    let side2 = clockwise_side(clockwise, p, b, c);
+    let side3 = clockwise_side(clockwise, p, c, a);
+    sides_fit(side1, side2, side3)
 }
 
 fn is_corner(p: Vec3, a: Vec3, b: Vec3, c: Vec3) -> bool
@@ -69,30 +62,13 @@ fn is_corner(p: Vec3, a: Vec3, b: Vec3, c: Vec3) -> bool
     p.equals(a) | p.equals(b) | p.equals(c)
 }
 
-// Whether p is inside the triangle (a, b, c) or on an edge of it; a corner is not. All four sides are tested, as the source does.
-pub fn inside_tested(p: Vec3, a: Vec3, b: Vec3, c: Vec3) -> Inner
-    ensures { result ≡ inner_of p a b c }
-{
-    if is_corner(p, a, b, c) {
-        return Inner {
-            inside: false,
-            close: false,
-        };
-    }
-    let own = base::side_test(a, b, c);
-    let side = own.side;
-    let by = own.by;
-    let edges = edges_tested(base::is_right(side), p, a, b, c);
-    Inner {
-        inside: edges.inside,
-        close: base::is_retest(by) | edges.close,
-    }
-}
-
-// That alone.
+// Whether p is inside the triangle (a, b, c) or on an edge of it; a corner is not.
 pub fn inside_or_edge(p: Vec3, a: Vec3, b: Vec3, c: Vec3) -> bool
     ensures { result ≡ inside_or_edge p a b c }
 {
-    let t = inside_tested(p, a, b, c);
-    t.inside
+    if is_corner(p, a, b, c) {
+        return false;
+    }
+    let clockwise = is_right(base::side_of(a, b, c));
+    edges_fit(clockwise, p, a, b, c)
 }

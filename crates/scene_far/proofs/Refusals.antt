@@ -8,33 +8,23 @@ use lib.Ieee.{Float}
 use Rattle.vec3.specs.declared.Vec3.{Vec3}
 use Rattle.vec3.specs.Vec.{cleared}
 use Rattle.chord_length.specs.declared.ChordLength.{ChordLength}
-use Rattle.base.specs.declared.Decided.{Decided}
-use Rattle.base.specs.Close.{decided}
 use Rattle.loop_ask.specs.Answers as Ask
-use Rattle.loop_ask.specs.Words as Words
 use Rattle.loop_ask.specs.Places.{place_of}
-use Rattle.loop_ask.specs.Close.{close_place}
 use Rattle.loop_ask.specs.Questions.{query_fault, place_answer}
 use Rattle.loop_distances.specs.Distances as Far
 use Rattle.scene_store.specs.declared.Area.{Area}
-use Rattle.scene_store.specs.Store.{corners, codes}
-use Rattle.scene_ask.specs.Ask.{place_in}
+use Rattle.scene_store.specs.Store.{corners, codes, place_in}
 use Rattle.scene_far.specs.declared.Said.TheVariants as Said
 use Rattle.scene_far.specs.Far.{far_in, place_said, far_said, said_in, SameRefusals}
 
 -- by the number of the fault, 0 for none
-far_by : (fault n k : ℕ) (by : Decided) (c : ChordLength) → Far.judged fault c ≡ Far.refused k → Words.worded (Ask.judged fault (Ask.answer n)) by ≡ Words.refused k
-far_by zero n k by c e = absurd (let z : ◌≡◌ {A = ℕ} 0 1 = cc in omega arith)
-far_by (suc fault) n k by c e = let q : suc fault ≡ k = cc in ap Words.refused q
+far_by : (fault n k : ℕ) (c : ChordLength) → Far.judged fault c ≡ Far.refused k → Ask.judged fault (Ask.answer n) ≡ Ask.refused k
+far_by zero n k c e = absurd (let z : ◌≡◌ {A = ℕ} 0 1 = cc in omega arith)
+far_by (suc fault) n k c e = let q : suc fault ≡ k = cc in ap Ask.refused q
 
-place_by_lem : (fault n k : ℕ) (by : Decided) (c : ChordLength) → Words.worded (Ask.judged fault (Ask.answer n)) by ≡ Words.refused k → Far.judged fault c ≡ Far.refused k
-place_by_lem zero n k by c e = absurd (let z : ◌≡◌ {A = ℕ} 0 1 = cc in omega arith)
-place_by_lem (suc fault) n k by c e = let q : suc fault ≡ k = cc in ap Far.refused q
-
--- an answer is refused with its word as it is without
-without : (t : Ask.Told) (by : Decided) (k : ℕ) → Words.worded t by ≡ Words.refused k → t ≡ Ask.refused k
-without (Ask.refused n) by k e = let q : n ≡ k = cc in ap Ask.refused q
-without (Ask.answer n) by k e = absurd (let z : ◌≡◌ {A = ℕ} 0 1 = cc in omega arith)
+place_by_lem : (fault n k : ℕ) (c : ChordLength) → Ask.judged fault (Ask.answer n) ≡ Ask.refused k → Far.judged fault c ≡ Far.refused k
+place_by_lem zero n k c e = absurd (let z : ◌≡◌ {A = ℕ} 0 1 = cc in omega arith)
+place_by_lem (suc fault) n k c e = let q : suc fault ≡ k = cc in ap Far.refused q
 
 module _ (a : Area) (ps ns : List Float) (cs : List ℕ) (p : Vec3) where
   -- what both are refused for, and what each would answer
@@ -44,42 +34,30 @@ module _ (a : Area) (ps ns : List Float) (cs : List ℕ) (p : Vec3) where
   abbrev place : ℕ
   place = place_of a.header (corners a ps) (corners a ns) (cleared p)
 
-  abbrev word : Decided
-  word = decided (close_place a.header (corners a ps) (corners a ns) (cleared p))
-
   abbrev chord : ChordLength
   chord = Far.far (corners a ps) (corners a ns) a.header.count (cleared p)
 
-  far_place : (k : ℕ) → far_in a ps ns cs p ≡ Far.refused k → place_in a ps ns cs p ≡ Words.refused k
+  far_place : (k : ℕ) → far_in a ps ns cs p ≡ Far.refused k → place_in a ps ns cs p ≡ Ask.refused k
   unfolding far_in place_in Far.boundary_told place_answer
-  far_place k e = far_by fault place k word chord e
+  far_place k e = far_by fault place k chord e
 
-  place_far : (k : ℕ) → place_in a ps ns cs p ≡ Words.refused k → far_in a ps ns cs p ≡ Far.refused k
+  place_far : (k : ℕ) → place_in a ps ns cs p ≡ Ask.refused k → far_in a ps ns cs p ≡ Far.refused k
   unfolding far_in place_in Far.boundary_told place_answer
-  place_far k e = place_by_lem fault place k word chord e
-
-  told_refused : (k : ℕ) → place_in a ps ns cs p ≡ Words.refused k → place_answer a.header (corners a ps) (corners a ns) (codes a cs) p ≡ Ask.refused k
-  unfolding place_in
-  told_refused k e = without (place_answer a.header (corners a ps) (corners a ns) (codes a cs) p) word k e
+  place_far k e = place_by_lem fault place k chord e
 
 pub same_refusals : SameRefusals
 same_refusals = record { far_place = far_place; place_far = place_far }
 
 -- what is said of either
-place_told_lem : (number k : ℕ) (t : Words.Worded) → place_said number t ≡ Said.Refused k → t ≡ Words.refused k
-place_told_lem number k (Words.refused n) e = let q : n ≡ k = cc in ap Words.refused q
-place_told_lem number k (Words.answer n by) e = absurd (let z : ◌≡◌ {A = ℕ} 0 1 = cc in omega arith)
+place_told_lem : (number k : ℕ) (t : Ask.Told) → place_said number t ≡ Said.Refused k → t ≡ Ask.refused k
+place_told_lem number k (Ask.refused n) e = let q : n ≡ k = cc in ap Ask.refused q
+place_told_lem number k (Ask.answer n) e = absurd (let z : ◌≡◌ {A = ℕ} 0 1 = cc in omega arith)
 
 far_told_lem : (number k : ℕ) (t : Far.Told) → far_said number t ≡ Said.Refused k → t ≡ Far.refused k
 far_told_lem number k (Far.refused n) e = let q : n ≡ k = cc in ap Far.refused q
 far_told_lem number k (Far.chord c) e = absurd (let z : ◌≡◌ {A = ℕ} 0 1 = cc in omega arith)
 
-said_place : (far : Bool) (number : ℕ) (a : Area) (ps ns : List Float) (cs : List ℕ) (p : Vec3) (k : ℕ) → said_in far number a ps ns cs p ≡ Said.Refused k → place_in a ps ns cs p ≡ Words.refused k
+pub said_refused : (far : Bool) (number : ℕ) (a : Area) (ps ns : List Float) (cs : List ℕ) (p : Vec3) (k : ℕ) → said_in far number a ps ns cs p ≡ Said.Refused k → place_in a ps ns cs p ≡ Ask.refused k
 unfolding said_in
-said_place true number a ps ns cs p k e = same_refusals.far_place a ps ns cs p k (far_told_lem number k (far_in a ps ns cs p) e)
-said_place false number a ps ns cs p k e = place_told_lem number k (place_in a ps ns cs p) e
-
--- either is refused as the place's answer is
-pub said_refused : (far : Bool) (number : ℕ) (a : Area) (ps ns : List Float) (cs : List ℕ) (p : Vec3) (k : ℕ)
-    → said_in far number a ps ns cs p ≡ Said.Refused k → place_answer a.header (corners a ps) (corners a ns) (codes a cs) p ≡ Ask.refused k
-said_refused far number a ps ns cs p k e = told_refused a ps ns cs p k (said_place far number a ps ns cs p k e)
+said_refused true number a ps ns cs p k e = same_refusals.far_place a ps ns cs p k (far_told_lem number k (far_in a ps ns cs p) e)
+said_refused false number a ps ns cs p k e = place_told_lem number k (place_in a ps ns cs p) e

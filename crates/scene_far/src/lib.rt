@@ -1,10 +1,10 @@
 // How far a position is from the border of an area in the store, and what an area says of one position: where it lies or how far it is, as a scene's line.
 ghost use Rattle.std.specs.Prelude.{◌≡◌};
+ghost use Rattle.loop_ask.specs.Answers.{toldPlaced};
 ghost use Rattle.loop_distances.specs.Distances.{told_distance};
 ghost use Rattle.scene_store.specs.Store as St;
 ghost use Rattle.scene_far.specs.Far as F;
 
-use base::Decided;
 use loop_ask::Placed;
 use loop_distances::Distance;
 use scene_lines::Line;
@@ -36,8 +36,29 @@ fn far_in(a: Area, positions: &[f64], normals: &[f64], classes: &[u8], p: Vec3) 
     )
 }
 
-// What the area with a number says of a position: how `far` it is, by the bits of the squared chord, or where it lies, by the answer's number and the test that
-// decided it. A mute area tests nothing.
+// The line of a place, by its answer's number.
+fn place_said(number: usize, placed: Placed) -> Said
+    ensures { result ≡ F.place_said number (toldPlaced placed) }
+{
+    match placed {
+        Placed::Refused(k) => Said::Refused(k),
+        Placed::Outside => Said::Line(Line::Place(number, 0)),
+        Placed::Inside => Said::Line(Line::Place(number, 1)),
+        Placed::Mute => Said::Line(Line::Place(number, 2)),
+    }
+}
+
+// The line of a far, by the bits of its squared chord.
+fn far_said(number: usize, distance: Distance) -> Said
+    ensures { result ≡ F.far_said number (told_distance distance) }
+{
+    match distance {
+        Distance::Refused(k) => Said::Refused(k),
+        Distance::Chord(c) => Said::Line(Line::Far(number, wire::to_bits(c.0))),
+    }
+}
+
+// What the area with a number says of a position: how `far` it is, or where it lies.
 pub fn said_in(
     far: bool,
     number: usize,
@@ -51,16 +72,10 @@ pub fn said_in(
     ensures { result ≡ F.said_in far number a positions.now normals.now classes.now p }
 {
     if far {
-        match far_in(a, positions, normals, classes, p) {
-            Distance::Refused(k) => Said::Refused(k),
-            Distance::Chord(c) => Said::Line(Line::Far(number, wire::to_bits(c.0))),
-        }
-    } else {
-        match scene_ask::place_in(a, positions, normals, classes, p) {
-            Placed::Refused(k) => Said::Refused(k),
-            Placed::Outside(by) => Said::Line(Line::Place(number, 0, by)),
-            Placed::Inside(by) => Said::Line(Line::Place(number, 1, by)),
-            Placed::Mute => Said::Line(Line::Place(number, 2, Decided::First)),
-        }
+        return far_said(number, far_in(a, positions, normals, classes, p));
     }
+    place_said(
+        number,
+        scene_store::place_in(a, positions, normals, classes, p),
+    )
 }

@@ -8,7 +8,7 @@ use Rattle.scene_lines.specs.Lines.{room_of}
 pub longest : (l : Line) → room_of l ≤ 45
 unfolding room_of
 longest (Area number h triangles) = omega arith
-longest (Place number answer by) = omega arith
+longest (Place number answer) = omega arith
 longest (Pair first second relation) = omega arith
 longest (Far number bits) = omega arith
 longest (End records) = omega arith

@@ -1,10 +1,9 @@
--- SCOPE 30, 46, 52, 62: the text of a scene's lines, as bytes. Definitions only.
+-- SCOPE 30, 46, 52: the text of a scene's lines, as bytes. Definitions only.
 use Rattle.std.specs.Prelude.{ℕ, List, ◌++◌}
-use Rattle.base.specs.declared.Decided.{Decided}
 use Rattle.loop_header.specs.declared.Header.{Header}
 use Rattle.loop_header.specs.Loops.{mute}
 use Rattle.scene_words.specs.Bytes.{bytes}
-use Rattle.scene_words.specs.Words.{decimal, hex, state_word, turned_word, sure_word, place_word, decided_word, relation_word}
+use Rattle.scene_words.specs.Words.{decimal, hex, state_word, turned_word, sure_word, place_word, relation_word}
 use Rattle.scene_lines.specs.declared.Line.{Line}
 use Rattle.scene_lines.specs.declared.Line.TheVariants.{Area, Place, Pair, Far, End, Refused, RefusedAt}
 
@@ -16,9 +15,9 @@ unfoldable pub area_line : ℕ → Header → ℕ → List ℕ
 area_line number h triangles =
     bytes "area " ++ decimal number ++ bytes " " ++ decimal h.count ++ marks_words h ++ decimal triangles ++ bytes "\n"
 
--- SCOPE 62: the area, where the place lies, and which test decided it
-unfoldable pub place_line : ℕ → ℕ → Decided → List ℕ
-place_line number answer by = bytes "place " ++ decimal number ++ place_word answer ++ decided_word by
+-- the area, and where the place lies
+unfoldable pub place_line : ℕ → ℕ → List ℕ
+place_line number answer = bytes "place " ++ decimal number ++ place_word answer
 
 -- both areas, and the relation
 unfoldable pub pair_line : ℕ → ℕ → ℕ → List ℕ
@@ -46,7 +45,7 @@ refused_at_line number offset field index = refusal_words number offset field ++
 -- a line by its kind
 abbrev pub line_text : Line → List ℕ
 line_text (Area number h triangles) = area_line number h triangles
-line_text (Place number answer by) = place_line number answer by
+line_text (Place number answer) = place_line number answer
 line_text (Pair first second relation) = pair_line first second relation
 line_text (Far number bits) = far_line number bits
 line_text (End records) = end_line records
@@ -56,7 +55,7 @@ line_text (RefusedAt number offset field index) = refused_at_line number offset 
 -- the most bytes that a line takes: no number has more than five digits
 unfoldable pub room_of : Line → ℕ
 room_of (Area number h triangles) = 45
-room_of (Place number answer by) = 26
+room_of (Place number answer) = 20
 room_of (Pair first second relation) = 30
 room_of (Far number bits) = 27
 room_of (End records) = 10

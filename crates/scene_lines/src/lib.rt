@@ -1,19 +1,18 @@
 // The lines of a scene, written into a lent slice of bytes from an offset on. Each function answers the offset after its text.
 ghost use Rattle.std.specs.Prelude.{◌≡◌, ◌+◌, ◌≤◌, length};
-ghost use Rattle.loop_header.specs.Loops.{mute};
+ghost use Rattle.loop_header.specs.Loops.{is_absent, mute};
 ghost use Rattle.scene_words.specs.Words.{Wrote};
 ghost use Rattle.scene_lines.specs.Lines as L;
 
-use base::Decided;
 use loop_header::Header;
 use vec3::Insides;
 
-// What a line says. An answer and a relation go by their numbers, a squared chord by its bits; a place has the test that decided it; the last line of a scene is `End`, `Refused` (the number, the offsets of the record and of
+// What a line says. An answer and a relation go by their numbers, a squared chord by its bits; the last line of a scene is `End`, `Refused` (the number, the offsets of the record and of
 // the field) or `RefusedAt`, which adds the index of a position in its list.
 #[derive(Drop)]
 pub enum Line {
     Area(usize, Header, usize),
-    Place(usize, u8, Decided),
+    Place(usize, u8),
     Pair(usize, usize, u8),
     Far(usize, u64),
     End(usize),
@@ -21,14 +20,20 @@ pub enum Line {
     RefusedAt(u8, usize, usize, usize),
 }
 
+fn is_absent(i: Insides) -> bool
+    ensures { result ≡ is_absent i }
+{
+    match i {
+        Insides::Absent => true,
+        Insides::Two(_, _) => false,
+    }
+}
+
 fn is_mute(h: Header) -> bool
     ensures { result ≡ mute h }
 {
     let insides = h.insides;
-    match insides {
-        Insides::Absent => 3 < h.count,
-        Insides::Two(_, _) => false,
-    }
+    (3 < h.count) & is_absent(insides)
 }
 
 // The second half of an area line: state and marks.
@@ -57,15 +62,14 @@ fn put_area(out: &mut [u8], at: usize, number: usize, h: Header, triangles: usiz
     scene_words::put(out, f, b"\n")
 }
 
-fn put_place(out: &mut [u8], at: usize, number: usize, answer: u8, by: Decided) -> usize
-    requires { at + 26 ≤ length out.old }
-    ensures wrote { Wrote out.old at (L.place_line number answer by) out.new result }
-    ensures upper_bound { result ≤ at + 26 }
+fn put_place(out: &mut [u8], at: usize, number: usize, answer: u8) -> usize
+    requires { at + 20 ≤ length out.old }
+    ensures wrote { Wrote out.old at (L.place_line number answer) out.new result }
+    ensures upper_bound { result ≤ at + 20 }
 {
     let a = scene_words::put(out, at, b"place ");
     let b = scene_words::put_number(out, a, number);
-    let c = scene_words::put_answer(out, b, answer);
-    scene_words::put_decided(out, c, by)
+    scene_words::put_answer(out, b, answer)
 }
 
 fn put_pair(out: &mut [u8], at: usize, first: usize, second: usize, relation: u8) -> usize
@@ -151,7 +155,7 @@ pub fn put_line(out: &mut [u8], at: usize, line: Line) -> usize
 {
     match line {
         Line::Area(number, h, triangles) => put_area(out, at, number, h, triangles),
-        Line::Place(number, answer, by) => put_place(out, at, number, answer, by),
+        Line::Place(number, answer) => put_place(out, at, number, answer),
         Line::Pair(first, second, relation) => put_pair(out, at, first, second, relation),
         Line::Far(number, bits) => put_far(out, at, number, bits),
         Line::End(records) => put_end(out, at, records),

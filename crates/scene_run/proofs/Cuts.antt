@@ -29,8 +29,7 @@ use Rattle.loop_triangles.specs.Triangles as T
 use Rattle.loop_triangles.proofs.Demand.{cut_is}
 use Rattle.scene_records.specs.Records.{floats_at}
 use Rattle.scene_store.specs.declared.Area.{Area}
-use Rattle.scene_store.specs.Store.{corners, codes, built_at}
-use Rattle.scene_ask.specs.Ask.{blank}
+use Rattle.scene_store.specs.Store.{corners, codes, built_at, blank}
 use Rattle.scene_run.proofs.Floats.{read_doubles}
 
 blank_size : length blank ≡ 1530

@@ -14,8 +14,6 @@ use Rattle.loop_header.specs.declared.State.TheVariants.{Empty, Full, Ring}
 use Rattle.loop_header.specs.Loops.{cut_fault}
 use Rattle.loop_build.specs.Build as B
 use Rattle.loop_ask.specs.Answers.{Told, refused, answer}
-use Rattle.loop_ask.specs.Words.{Worded}
-use Rattle.loop_ask.specs.Words as Words
 use Rattle.ring_cut.specs.Cut as C
 use Rattle.loop_triangles.specs.Triangles.{Outcome, outcome, roomy, full_outcome, cut_told, laid, ring_outcome, state_outcome, outcome_by, triangulate_outcome}
 use Rattle.scene_lines.specs.declared.Line.{Line}
@@ -24,8 +22,7 @@ use Rattle.scene_records.specs.declared.Read.{Read}
 use Rattle.scene_records.specs.declared.Read.TheVariants as Read
 use Rattle.scene_records.specs.Records.{u16_of, u32_of, kind_field, body_field, area_at, place_at, pair_at, kind_at, read_at, floats_at}
 use Rattle.scene_store.specs.declared.Area.{Area}
-use Rattle.scene_store.specs.Store.{corners, codes}
-use Rattle.scene_ask.specs.Ask.{blank, counted, triangle_count, place_in, pair_in}
+use Rattle.scene_store.specs.Store.{corners, codes, blank, counted, triangle_count, place_in, pair_in}
 use Rattle.scene_far.specs.declared.Said.{Said}
 use Rattle.scene_far.specs.declared.Said.TheVariants as Said
 use Rattle.scene_far.specs.Far.{far_in, place_said, far_said, said_in}
@@ -45,7 +42,7 @@ use Rattle.scene_steps.specs.Steps.{Step, ended, faulty, refused_at, wrote, of_p
 use Rattle.scene_steps.specs.Steps.{place_told, said_of, place_met, place_by, place_step, pair_told, pair_met, pair_by, pair_step, step_by, step}
 use Rattle.scene_steps.specs.Steps as S
 use Rattle.scene_run.specs.Texts.{Each, is_last, numbers_of, bits_of}
-use Rattle.scene_run.proofs.Refusals.{Few, WordedFew, place_few, pair_few, BuiltFew, built_few}
+use Rattle.scene_run.proofs.Refusals.{Few, place_few, pair_few, BuiltFew, built_few}
 
 -- ---- numbers as they are read: two bytes
 all_bytes : (s : List ℕ) → ((i : ℕ) → i < length s → get_or s i 0 < 256) → (i : ℕ) → get_or s i 0 < 256
@@ -174,12 +171,12 @@ place_small s w (Said.Refused k) f = refusal_small s (w.at + 8) 1 k (omega arith
 place_small s w (Said.Line line) f = f
 
 module _ (number : ℕ) (h : number < 65536) (a : Area) (ps ns : List Float) (cs : List ℕ) (p : Vec3) where
-  place_line_lem : (t : Worded) → place_in a ps ns cs p ≡ t → SaidSmall (place_said number t)
-  place_line_lem (Words.refused k) e = subst WordedFew e (place_few a ps ns cs p)
-  place_line_lem (Words.answer n by) e = record { not_last = refl; numbers = (omega arith, tt); bits = tt }
+  place_line_lem : (t : Told) → place_in a ps ns cs p ≡ t → SaidSmall (place_said number t)
+  place_line_lem (refused k) e = subst Few e (place_few a ps ns cs p)
+  place_line_lem (answer n) e = record { not_last = refl; numbers = (omega arith, tt); bits = tt }
 
   far_line_lem : (t : Far.Told) → far_in a ps ns cs p ≡ t → SaidSmall (far_said number t)
-  far_line_lem (Far.refused k) e = subst WordedFew (same_refusals.far_place a ps ns cs p k e) (place_few a ps ns cs p)
+  far_line_lem (Far.refused k) e = subst Few (same_refusals.far_place a ps ns cs p k e) (place_few a ps ns cs p)
   far_line_lem (Far.chord c) e = record { not_last = refl; numbers = (omega arith, tt); bits = (subst Bits e (far_bits a ps ns cs p), tt) }
 
   said_small : (far : Bool) → SaidSmall (said_in far number a ps ns cs p)

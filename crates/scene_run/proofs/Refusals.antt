@@ -13,20 +13,14 @@ use Rattle.loop_header.proofs.Most.{then_most, position_most, positions_most, lo
 use Rattle.loop_build.specs.Build as B
 use Rattle.loop_build.specs.Why.{ListWhy, not_threes, too_many, in_positions, RoomWhy, short_positions, short_normals, short_classes, fewer, all_fit}
 use Rattle.loop_build.proofs.Exact as Build
-use Rattle.base.specs.declared.Decided.{Decided}
-use Rattle.base.specs.Close.{decided}
 use Rattle.loop_ask.specs.Answers.{Told, refused, answer}
-use Rattle.loop_ask.specs.Words.{Worded, worded}
-use Rattle.loop_ask.specs.Words as Words
-use Rattle.loop_ask.specs.Close.{close_place}
 use Rattle.loop_ask.specs.Questions.{place_answer}
 use Rattle.loop_ask.proofs.Exact as Ask
 use Rattle.loop_relate.specs.Why.{RelateWhy, loops, modes, seven}
 use Rattle.loop_relate.specs.Relations.{relate_answer}
 use Rattle.loop_relate.proofs.Exact as Relate
 use Rattle.scene_store.specs.declared.Area.{Area}
-use Rattle.scene_store.specs.Store.{corners, codes, built_at}
-use Rattle.scene_ask.specs.Ask.{place_in, pair_in}
+use Rattle.scene_store.specs.Store.{corners, codes, built_at, place_in, pair_in}
 
 up : (k : ℕ) → k ≤ 6 → k ≤ 11
 up k l = omega arith
@@ -45,20 +39,9 @@ place_told_lem h ps ns cs p =
     few (place_answer h ps ns cs p)
     (λ k e. up k (then_most 6 (loop_most h ps ns cs) (position_most (cleared p)) k (((Ask.exact h ps ns cs).place p).given_why k e).1))
 
--- the same with its word
-abbrev pub WordedFew : Worded → Type 0
-WordedFew (Words.refused k) = k ≤ 11
-WordedFew (Words.answer n by) = Unit {0}
-
-worded_few : (t : Told) (by : Decided) → Few t → WordedFew (worded t by)
-worded_few (refused k) by h = h
-worded_few (answer n) by h = tt
-
-pub place_few : (a : Area) (ps ns : List Float) (cs : List ℕ) (p : Vec3) → WordedFew (place_in a ps ns cs p)
+pub place_few : (a : Area) (ps ns : List Float) (cs : List ℕ) (p : Vec3) → Few (place_in a ps ns cs p)
 unfolding place_in
-place_few a ps ns cs p =
-    worded_few (place_answer a.header (corners a ps) (corners a ns) (codes a cs) p) (decided (close_place a.header (corners a ps) (corners a ns) (cleared p)))
-    (place_told_lem a.header (corners a ps) (corners a ns) (codes a cs) p)
+place_few a ps ns cs p = place_told_lem a.header (corners a ps) (corners a ns) (codes a cs) p
 
 module _ (h : Header) (ps ns : List Float) (cs : List ℕ) (o : Header) (qs ms : List Float) (ds : List ℕ) where
   relate_most : (k : ℕ) → RelateWhy h ps ns cs o qs ms ds k → k ≤ 11

@@ -17,7 +17,7 @@ Each P (x ∷ l) = P x × Each P l
 -- the lines that end a text
 abbrev pub is_last : Line → Bool
 is_last (Area number h triangles) = false
-is_last (Place number answer by) = false
+is_last (Place number answer) = false
 is_last (Pair first second relation) = false
 is_last (Far number bits) = false
 is_last (End records) = true
@@ -27,7 +27,7 @@ is_last (RefusedAt number offset field index) = true
 -- the numbers that a line prints in decimal, as they come in it
 abbrev pub numbers_of : Line → List ℕ
 numbers_of (Area number h triangles) = number ∷ h.count ∷ triangles ∷ []
-numbers_of (Place number answer by) = number ∷ []
+numbers_of (Place number answer) = number ∷ []
 numbers_of (Pair first second relation) = first ∷ second ∷ []
 numbers_of (Far number bits) = number ∷ []
 numbers_of (End records) = records ∷ []
@@ -37,7 +37,7 @@ numbers_of (RefusedAt number offset field index) = number ∷ offset ∷ field �
 -- the bits that a line prints in hexadecimal
 abbrev pub bits_of : Line → List ℕ
 bits_of (Area number h triangles) = []
-bits_of (Place number answer by) = []
+bits_of (Place number answer) = []
 bits_of (Pair first second relation) = []
 bits_of (Far number bits) = bits ∷ []
 bits_of (End records) = []

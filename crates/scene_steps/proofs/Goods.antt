@@ -23,8 +23,7 @@ use Rattle.scene_store.specs.declared.Area.{Area}
 use Rattle.scene_notes.specs.declared.Judged.{Judged}
 use Rattle.scene_notes.specs.declared.Judged.TheVariants.{Fine, Bad}
 use Rattle.scene_notes.specs.Noted.{Scene, area_at, judge_area, judge_named}
-use Rattle.scene_store.specs.Store.{nobody}
-use Rattle.scene_ask.specs.Ask.{triangle_count, pair_in}
+use Rattle.scene_store.specs.Store.{nobody, triangle_count, pair_in}
 use Rattle.scene_far.specs.declared.Said.{Said}
 use Rattle.scene_far.specs.declared.Said.TheVariants as Said
 use Rattle.scene_steps.specs.Steps.{refused, refused_at, wrote, of_positions, refusal, passed_by, with_area, area_told, area_out, area_made, area_by, area_step, met, Good}

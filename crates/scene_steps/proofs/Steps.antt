@@ -30,8 +30,7 @@ use Rattle.scene_steps.specs.declared.Report.TheVariants as Report
 use Rattle.scene_steps.specs.declared.Stepped.{Stepped}
 use Rattle.scene_notes.specs.Noted.{Scene, index_of, areas_of, view, passed_notes, Addable, area_at, added_notes, judge_area, is_past, judge_numbers, judge_named}
 use Rattle.scene_notes.proofs.Tables.{met_count, Allowed, allowed, all_met, one_judged, two_judged}
-use Rattle.scene_store.specs.Store.{nobody, after, built_at, Lies, Room}
-use Rattle.scene_ask.specs.Ask.{triangle_count, pair_in}
+use Rattle.scene_store.specs.Store.{nobody, after, built_at, triangle_count, pair_in, Lies, Room}
 use Rattle.scene_far.specs.declared.Said.{Said}
 use Rattle.scene_far.specs.declared.Said.TheVariants as Said
 use Rattle.scene_far.specs.Far.{said_in}

@@ -20,8 +20,7 @@ use Rattle.scene_steps.specs.declared.Stepped.{Stepped}
 use Rattle.scene_steps.specs.declared.Report.{Report}
 use Rattle.scene_steps.specs.declared.Report.TheVariants as Report
 use Rattle.scene_notes.specs.Noted.{Scene, index_of, Kept, view, passed_notes, area_at, judge_area, judge_named}
-use Rattle.scene_store.specs.Store.{nobody, built_at}
-use Rattle.scene_ask.specs.Ask.{triangle_count, pair_in}
+use Rattle.scene_store.specs.Store.{nobody, built_at, triangle_count, pair_in}
 use Rattle.scene_far.specs.declared.Said.{Said}
 use Rattle.scene_far.specs.declared.Said.TheVariants as Said
 use Rattle.scene_far.specs.Far.{said_in}

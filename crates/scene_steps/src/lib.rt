@@ -2,7 +2,6 @@
 ghost use Rattle.std.specs.Prelude.{◌≡◌, ◌+◌, ◌*◌, ◌≤◌, ◌<◌, length};
 ghost use Rattle.loop_relate.specs.Relations.{told_related};
 ghost use Rattle.scene_store.specs.Store as St;
-ghost use Rattle.scene_ask.specs.Ask as As;
 ghost use Rattle.scene_notes.specs.Noted as N;
 ghost use Rattle.scene_steps.specs.Steps as S;
 
@@ -63,7 +62,7 @@ fn area_line(
 ) -> Stepped
     requires { St.Lies (N.area_at c.used number h) positions.now normals.now classes.now × N.Addable c (N.area_at c.used number h) count }
     ensures { result ≡ record {
-      report = Report.Line (Line.Area number h (As.triangle_count (N.area_at c.used number h) positions.now classes.now));
+      report = Report.Line (Line.Area number h (St.triangle_count (N.area_at c.used number h) positions.now classes.now));
       next = N.added_notes c (N.area_at c.used number h) count;
     } }
 {
@@ -72,7 +71,7 @@ fn area_line(
         start: c.used,
         header: h,
     };
-    let triangles = scene_ask::triangle_count(a, positions, normals, classes);
+    let triangles = scene_store::triangle_count(a, positions, normals, classes);
     Stepped {
         report: Report::Line(Line::Area(number, h, triangles)),
         next: scene_notes::added(c, a, count),
@@ -217,7 +216,7 @@ fn pair_met(
 {
     let a = scene_notes::area_of(c, i);
     let b = scene_notes::area_of(c, j);
-    let related = scene_ask::pair_in(a, b, positions, normals, classes);
+    let related = scene_store::pair_in(a, b, positions, normals, classes);
     Stepped {
         report: pair_told(related, number, other),
         next: scene_notes::passed(c, 10),

@@ -1,8 +1,13 @@
 -- SCOPE 28: areas in one lent store, the ring of each in the rest that was unused. SCOPE 54: they are built in plain mode. Definitions only.
-use Rattle.std.specs.Prelude.{ℕ, ◌+◌, ◌*◌, ◌≤◌, ◌≡◌, List, ◌++◌, length, take, drop, Float}
+use Rattle.std.specs.Prelude.{ℕ, ◌+◌, ◌*◌, ◌≤◌, ◌≡◌, List, ◌++◌, length, take, drop, replicate, Float}
+use Rattle.vec3.specs.declared.Vec3.{Vec3}
 use Rattle.minor_arc.specs.declared.Mode.TheVariants.{Plain}
 use Rattle.loop_header.specs.Loops.{empty_header}
 use Rattle.loop_build.specs.Build.{Outcome, build_outcome}
+use Rattle.loop_ask.specs.Answers.{Told, refused, answer}
+use Rattle.loop_ask.specs.Questions.{place_answer}
+use Rattle.loop_triangles.specs.Triangles.{triangulate_outcome}
+use Rattle.loop_relate.specs.Relations.{relate_answer}
 use Rattle.scene_store.specs.declared.Area.{Area}
 
 -- where no area stands
@@ -27,6 +32,24 @@ after used ps ns cs o = record {
 
 unfoldable pub built_at : List Float → ℕ → List Float → List Float → List ℕ → Outcome
 built_at l used ps ns cs = after used ps ns cs (build_outcome Plain l (drop (3 * used) ps) (drop (3 * used) ns) (drop used cs))
+
+-- room for the triangles of any area
+unfoldable pub blank : List ℕ
+blank = replicate 1530 0
+
+-- SCOPE 30: the number of triangles, 0 where 8 is given
+abbrev pub counted : Told → ℕ
+counted (refused k) = 0
+counted (answer n) = n
+
+unfoldable pub triangle_count : Area → List Float → List ℕ → ℕ
+triangle_count a ps cs = counted (triangulate_outcome a.header (corners a ps) (codes a cs) blank).answer
+
+unfoldable pub place_in : Area → List Float → List Float → List ℕ → Vec3 → Told
+place_in a ps ns cs p = place_answer a.header (corners a ps) (corners a ns) (codes a cs) p
+
+unfoldable pub pair_in : Area → Area → List Float → List Float → List ℕ → Told
+pair_in a b ps ns cs = relate_answer a.header (corners a ps) (corners a ns) (codes a cs) b.header (corners b ps) (corners b ns) (codes b cs)
 
 -- an area's corners lie within a store of this many
 pub record Lies (a : Area) (ps ns : List Float) (cs : List ℕ) : Type 0 where

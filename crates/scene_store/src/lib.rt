@@ -1,12 +1,19 @@
-// Areas in one lent store: each ring goes into its still unused rest.
-ghost use Rattle.std.specs.Prelude.{◌≡◌, ◌*◌, ◌≤◌, length};
+// Areas in one lent store: each ring goes into its still unused rest, and each question is asked of an area's own part.
+ghost use Rattle.std.specs.Prelude.{◌≡◌, ◌+◌, ◌*◌, ◌≤◌, length};
 ghost use Rattle.loop_build.specs.Build as B;
+ghost use Rattle.loop_ask.specs.Answers.{toldPlaced};
+ghost use Rattle.loop_relate.specs.Relations.{told_related};
+ghost use Rattle.loop_triangles.specs.Triangles.{told_cut};
 ghost use Rattle.scene_records.specs.Records.{floats_at};
 ghost use Rattle.scene_store.specs.Store as St;
 
+use loop_ask::Placed;
 use loop_build::Built;
 use loop_header::Header;
+use loop_relate::Related;
+use loop_triangles::Cut;
 use minor_arc::Mode;
+use vec3::Vec3;
 
 // An area that was met: its number, where its ring starts in the store, and its header.
 #[derive(Drop)]
@@ -68,4 +75,76 @@ pub fn build_area(
         normals,
         classes,
     )
+}
+
+// How many triangles a cut comes to: none where it is refused.
+fn counted(cut: Cut) -> usize
+    ensures { result ≡ St.counted (told_cut cut) }
+{
+    match cut {
+        Cut::Refused(_) => 0,
+        Cut::Triangles(n) => n,
+    }
+}
+
+pub fn place_in(a: Area, positions: &[f64], normals: &[f64], classes: &[u8], p: Vec3) -> Placed
+    requires { St.Lies a positions.now normals.now classes.now }
+    ensures { toldPlaced result ≡ St.place_in a positions.now normals.now classes.now p }
+{
+    let start = a.start;
+    let h = a.header;
+    let end = start + h.count;
+    let from = 3 * start;
+    let to = 3 * end;
+    loop_ask::contains_position(
+        h,
+        &positions[from..to],
+        &normals[from..to],
+        &classes[start..end],
+        p,
+    )
+}
+
+pub fn pair_in(a: Area, b: Area, positions: &[f64], normals: &[f64], classes: &[u8]) -> Related
+    requires { St.Lies a positions.now normals.now classes.now × St.Lies b positions.now normals.now classes.now }
+    ensures { told_related result ≡ St.pair_in a b positions.now normals.now classes.now }
+{
+    let start = a.start;
+    let h = a.header;
+    let end = start + h.count;
+    let from = 3 * start;
+    let to = 3 * end;
+    let begin = b.start;
+    let o = b.header;
+    let last = begin + o.count;
+    let first = 3 * begin;
+    let until = 3 * last;
+    loop_relate::relate(
+        h,
+        &positions[from..to],
+        &normals[from..to],
+        &classes[start..end],
+        o,
+        &positions[first..until],
+        &normals[first..until],
+        &classes[begin..last],
+    )
+}
+
+pub fn triangle_count(a: Area, positions: &[f64], normals: &[f64], classes: &[u8]) -> usize
+    requires { St.Lies a positions.now normals.now classes.now }
+    ensures { result ≡ St.triangle_count a positions.now classes.now }
+{
+    let start = a.start;
+    let h = a.header;
+    let end = start + h.count;
+    let from = 3 * start;
+    let to = 3 * end;
+    let mut triangles = [0u16; 1530];
+    counted(loop_triangles::triangulate(
+        h,
+        &positions[from..to],
+        &classes[start..end],
+        &mut triangles,
+    ))
 }

@@ -1,9 +1,7 @@
--- SCOPE 30, 52, 62: the words and numbers of a scene's lines, as bytes. Definitions only.
+-- SCOPE 30, 52: the words and numbers of a scene's lines, as bytes. Definitions only.
 use Rattle.std.specs.Prelude.{ℕ, ◌+◌, ◌-◌, ◌*◌, ◌/◌, ◌%◌, ◌^◌, ◌≡◌, Bool, cond, List, [], ◌∷◌, ◌++◌, length, ltb, eqb}
 use Rattle.std.proofs.lemmas.List.Edits.{sets}
 use Rattle.laws.specs.Loop.{flat}
-use Rattle.base.specs.declared.Decided.{Decided}
-use Rattle.base.specs.declared.Decided.TheVariants.{First, Retest}
 use Rattle.loop_header.specs.declared.State.{State}
 use Rattle.loop_header.specs.declared.State.TheVariants.{Empty, Full, Ring}
 use Rattle.scene_words.specs.Bytes.{bytes}
@@ -46,12 +44,7 @@ sure_word weak = cond weak (bytes " weak ") (bytes " steady ")
 
 -- where a place lies, by the answer's number
 abbrev pub place_word : ℕ → List ℕ
-place_word k = cond (eqb k 0) (bytes " outside") (cond (eqb k 1) (bytes " inside") (bytes " mute"))
-
--- SCOPE 62: clear where the first test decided, close where the retest did; the line's end is with it
-abbrev pub decided_word : Decided → List ℕ
-decided_word First = bytes " clear\n"
-decided_word Retest = bytes " close\n"
+place_word k = cond (eqb k 0) (bytes " outside\n") (cond (eqb k 1) (bytes " inside\n") (bytes " mute\n"))
 
 -- the relation by its number; from 3 on first
 abbrev pub later_word : ℕ → List ℕ

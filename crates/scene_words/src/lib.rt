@@ -3,7 +3,6 @@
 ghost use Rattle.std.specs.Prelude.{◌≡◌, [], ◌∷◌, ◌+◌, ◌≤◌, ◌<◌, length};
 ghost use Rattle.scene_words.specs.Words as W;
 
-use base::Decided;
 use loop_header::State;
 
 // Room for the longest text (scene_run). Its `ensures` gives the length alone, so that no proof looks at so many zeros; it stands here since its check takes
@@ -127,29 +126,17 @@ pub fn put_sure(out: &mut [u8], at: usize, weak: bool) -> usize
 }
 
 pub fn put_answer(out: &mut [u8], at: usize, answer: u8) -> usize
-    requires { at + 8 ≤ length out.old }
+    requires { at + 9 ≤ length out.old }
     ensures wrote { W.Wrote out.old at (W.place_word answer) out.new result }
-    ensures upper_bound { result ≤ at + 8 }
+    ensures upper_bound { result ≤ at + 9 }
 {
     if answer == 0 {
-        return put(out, at, b" outside");
+        return put(out, at, b" outside\n");
     }
     if answer == 1 {
-        return put(out, at, b" inside");
+        return put(out, at, b" inside\n");
     }
-    put(out, at, b" mute")
-}
-
-// Which test decided an answer, at the end of its line.
-pub fn put_decided(out: &mut [u8], at: usize, by: Decided) -> usize
-    requires { at + 7 ≤ length out.old }
-    ensures wrote { W.Wrote out.old at (W.decided_word by) out.new result }
-    ensures upper_bound { result ≤ at + 7 }
-{
-    match by {
-        Decided::First => put(out, at, b" clear\n"),
-        Decided::Retest => put(out, at, b" close\n"),
-    }
+    put(out, at, b" mute\n")
 }
 
 // The words of the last two relations.

@@ -13,8 +13,7 @@ use Rattle.vec3.specs.declared.Vec3.{Vec3}
 use Rattle.vec3.specs.Vec.{opposite, dot, cross, orthogonal_to}
 use Rattle.base.specs.declared.Side.{Side}
 use Rattle.base.specs.declared.Side.TheVariants.{Left, Right, Collinear}
-use Rattle.base.specs.Sides.{is_right, sign_of, retest_of, side_of}
-use Rattle.base.specs.Close.{retested}
+use Rattle.base.specs.Sides.{sign_of, retest_of, side_of}
 use Rattle.signs.specs.Signs.{cleared_float, Unsigned}
 use Rattle.signs.specs.Mirrors.{mirror, is_number, Stored, deciding, Mirrored, MirrorLaw}
 use Rattle.signs.proofs.Clears.{stored, cleared_twice}
@@ -107,6 +106,11 @@ number_if : (b : Bool) (x y x' y' : Float) → is_number x ≡ is_number x' → 
 number_if true x y x' y' f g = f
 number_if false x y x' y' f g = g
 
+abbrev is_right : Side → Bool
+is_right Left = false
+is_right Right = true
+is_right Collinear = false
+
 module _ (v u w : Vec3) (held : Stored v) where
   retest_mirrored : is_number (dot v (orthogonal_to u w)) ≡ true → retest_of (opposite v) u w ≡ mirror (retest_of v u w)
   unfolding retest_of
@@ -150,17 +154,12 @@ module _ (v u w : Vec3) (held : Stored v) where
   pub left_mirrored : side_of v u w ≡ Left → side_of (opposite v) u w ≡ Right
   left_mirrored e = not_right Left (is_number (deciding v u w)) refl e refl
 
-  pub retest_kept : retested (opposite v) u w ≡ retested v u w
-  unfolding retested
-  retest_kept = let k = cross u w in ten_mirrored (dot (opposite v) k) (dot v k) (dot_opposite v k held)
-
   mirrored : Mirrored v u w
   mirrored = record {
     by_number = side_mirrored;
     by_nan = λ n. (nan_right v u w n, nan_right (opposite v) u w (deciding_mirrored ∙ n));
     left = left_mirrored;
     collinear = λ e. not_right Collinear (is_number (deciding v u w)) refl e refl;
-    retest = retest_kept;
   }
 
 pub mirror_law : MirrorLaw

@@ -67,14 +67,6 @@ unfolding lt of_bits
 over_end true = refl
 over_end false = refl
 
-pub above_once : (x : Float) → lt F.zero x ≡ true → lt F.zero (neg x) ≡ false
-unfolding neg lt of_bits
-above_once nan h = refl
-above_once (inf true) h = absurd (false≢true h)
-above_once (inf false) h = refl
-above_once (fin true m e) h = absurd (false≢true h)
-above_once (fin false m e) h = refl
-
 -- ---- the size of a number
 size_minus : (m : ℕ) (e : ℤ) → abs (fin true (suc m) e) ≡ fin false (suc m) e
 unfolding abs neg

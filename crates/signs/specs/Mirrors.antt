@@ -10,7 +10,6 @@ use Rattle.vec3.specs.Vec.{dot, cross, opposite, orthogonal_to}
 use Rattle.base.specs.declared.Side.{Side}
 use Rattle.base.specs.declared.Side.TheVariants.{Left, Right, Collinear}
 use Rattle.base.specs.Sides.{side_of}
-use Rattle.base.specs.Close.{retested}
 use Rattle.signs.specs.Signs.{UnsignedVec}
 
 -- left and right exchanged
@@ -42,8 +41,6 @@ pub record Mirrored (v u w : Vec3) : Type 0 where
   -- NaN decides for right, so what is not right needs no condition
   pub left : side_of v u w ≡ Left → side_of (opposite v) u w ≡ Right
   pub collinear : side_of v u w ≡ Collinear → side_of (opposite v) u w ≡ Collinear
-  -- SCOPE 58: the first products are of one size, so either both need the retest or neither
-  pub retest : retested (opposite v) u w ≡ retested v u w
 
 abbrev pub MirrorLaw : Type 0
 MirrorLaw = (v u w : Vec3) → Stored v → Mirrored v u w

@@ -93,7 +93,7 @@ position_sized p h = let f = fine (finite_vec p) (within_range p) h in sized p f
     fine false c h = absurd (omega arith)
 
 -- ---- the normal of an edge
-pub stable_sized : (u v : Vec3) → Sized u 2 → Sized v 2 → Sized (stable_unit u v) 2
+stable_sized : (u v : Vec3) → Sized u 2 → Sized v 2 → Sized (stable_unit u v) 2
 stable_sized u v h k =
     let p = product_sized (summed u v) (parted u v) 4 4 (lit≤ tt) (lit≤ tt) (summed_sized u v h k) (parted_sized u v h k) in
     unit_sized (product (summed u v) (parted u v)).x (product (summed u v) (parted u v)).y (product (summed u v) (parted u v)).z 32 (lit≤ tt) p.x_is p.y_is p.z_is

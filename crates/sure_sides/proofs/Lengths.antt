@@ -249,14 +249,14 @@ undone n q (fin false m e) f N Q h s =
     let x = (m * up e) over (down e) in
     let l : m * up e ≤ 32 * down e = omega (arith, s.small) in
     record {
-      up_to_lem = le_add (n ⊠ (q ⊠ x)) x (0 over 1) (n ⊠ (q ⊠ (0 over 1))) 2048 0 (back_up n q x N Q (down_pos e) h l) (nought_up n q);
+      up_to = le_add (n ⊠ (q ⊠ x)) x (0 over 1) (n ⊠ (q ⊠ (0 over 1))) 2048 0 (back_up n q x N Q (down_pos e) h l) (nought_up n q);
       down_to = le_add x (n ⊠ (q ⊠ x)) (n ⊠ (q ⊠ (0 over 1))) (0 over 1) 2048 0 (back_down n q x N Q (down_pos e) h l) (nought_down n q);
     }
 undone n q (fin true m e) f N Q h s =
     let x = (m * up e) over (down e) in
     let l : m * up e ≤ 32 * down e = omega (arith, s.small) in
     record {
-      up_to_lem = le_add (n ⊠ (q ⊠ (0 over 1))) (0 over 1) x (n ⊠ (q ⊠ x)) 0 2048 (nought_down n q) (back_down n q x N Q (down_pos e) h l);
+      up_to = le_add (n ⊠ (q ⊠ (0 over 1))) (0 over 1) x (n ⊠ (q ⊠ x)) 0 2048 (nought_down n q) (back_down n q x N Q (down_pos e) h l);
       down_to = le_add (0 over 1) (n ⊠ (q ⊠ (0 over 1))) (n ⊠ (q ⊠ x)) x 0 2048 (nought_up n q) (back_up n q x N Q (down_pos e) h l);
     }
 
@@ -278,7 +278,7 @@ component S r few x s part =
     let k : 4 * n.num ≤ 256 * n.den = omega (arith, few) in
     let o = undone n (magnitude q) x s.finite P (den_pos q) i s in
     record {
-      up_to_lem = s_trans a b c 256 2048 A B (signed_pos x) (s_scale n (signed_of (stored q x)) (scale (magnitude q) c) 4 256 P (signed_pos (stored q x)) Z w.above k) o.up_to_lem;
+      up_to = s_trans a b c 256 2048 A B (signed_pos x) (s_scale n (signed_of (stored q x)) (scale (magnitude q) c) 4 256 P (signed_pos (stored q x)) Z w.above k) o.up_to;
       down_to = s_trans c b a 2048 256 (signed_pos x) B A o.down_to (s_scale n (scale (magnitude q) c) (signed_of (stored q x)) 4 256 P Z (signed_pos (stored q x)) w.below k);
     }
 
@@ -294,7 +294,7 @@ sum_both f a b c d e g P A B C D h k =
     let Y : Fractions y = fractions_add (scale f a) (scale f b) fa fb in
     let Z : Fractions z = fractions_add c d C D in
     record {
-      up_to_lem = s_grow x z (0 + (e + g)) (e + g) (omega arith) (s_trans x y z 0 (e + g) X Y Z (scale_out f a b) (s_add (scale f a) c (scale f b) d e g fa C fb D h.up_to_lem k.up_to_lem));
+      up_to = s_grow x z (0 + (e + g)) (e + g) (omega arith) (s_trans x y z 0 (e + g) X Y Z (scale_out f a b) (s_add (scale f a) c (scale f b) d e g fa C fb D h.up_to k.up_to));
       down_to = s_grow z x (e + g + 0) (e + g) (omega arith) (s_trans z y x (e + g) 0 Z Y X (s_add c (scale f a) d (scale f b) e g C fa D fb h.down_to k.down_to) (scale_in f a b));
     }
 
@@ -453,7 +453,7 @@ module _ (r c : Vec3) (h : Sized r 32) (k : Sized c 8) (t : Rooting (dot r r)) w
       let u : SLe none B (K + 144) = s_trans none (signed_of (dot (unit_of r) c)) B K 144 none_pos (signed_pos (dot (unit_of r) c)) Bp s after.above in
       let v : SLe (scale n none) (scale n B) G = s_scale n none B (K + 144) G N none_pos Bp u (omega (arith, mul-le-mul_right (K + 144) few)) in
       let w : SLe none (scale n B) (0 + G) = s_trans none (scale n none) (scale n B) 0 G none_pos (scale_pos n none N none_pos) (scale_pos n B N Bp) (scaled_none n).1 v in
-      let y : SLe none A (0 + G + 55296) = s_trans none (scale n B) A (0 + G) 55296 none_pos (scale_pos n B N Bp) Ap w (products r c h k t).up_to_lem in
+      let y : SLe none A (0 + G + 55296) = s_trans none (scale n B) A (0 + G) 55296 none_pos (scale_pos n B N Bp) Ap w (products r c h k t).up_to in
       s_grow none D (0 + G + 55296 + 2304) (64 * K + 66816) (omega arith) (s_trans none A D (0 + G + 55296) 2304 none_pos Ap (signed_pos (dot r c)) y before.below)
 
 -- ---- the root is 0: then the vector is next to nothing, and so is its product
@@ -523,7 +523,7 @@ tiny (fin false zero e) a p t h part =
         square n = omega arith
 
 small_gain : (G Z : Frac) → G.num * 9007199254740992 ≤ 8 * G.den → Z.num ≡ 0 → Both (record { gain = G; loss = Z }) none 8
-small_gain G Z h z = record { up_to_lem = up_at G.num G.den Z.num Z.den h z; down_to = down_at G.num G.den Z.num Z.den z }
+small_gain G Z h z = record { up_to = up_at G.num G.den Z.num Z.den h z; down_to = down_at G.num G.den Z.num Z.den z }
   where
     up_at : (a b c d : ℕ) → a * 9007199254740992 ≤ 8 * b → c ≡ 0 → (a * 1 + 0 * b) * (1 * d) * 9007199254740992 ≤ (0 * d + c * 1) * (b * 1) * 9007199254740992 + 8 * (b * 1 * (1 * d))
     up_at a b c d h z = omega (arith, mul-le-mul_right d h)
@@ -532,7 +532,7 @@ small_gain G Z h z = record { up_to_lem = up_at G.num G.den Z.num Z.den h z; dow
     down_at a b c d z = rw z (omega arith)
 
 small_loss : (G Z : Frac) → G.num * 9007199254740992 ≤ 8 * G.den → Z.num ≡ 0 → Both (record { gain = Z; loss = G }) none 8
-small_loss G Z h z = record { up_to_lem = up_at G.num G.den Z.num Z.den z; down_to = down_at G.num G.den Z.num Z.den h z }
+small_loss G Z h z = record { up_to = up_at G.num G.den Z.num Z.den z; down_to = down_at G.num G.den Z.num Z.den h z }
   where
     up_at : (a b c d : ℕ) → c ≡ 0 → (c * 1 + 0 * d) * (1 * b) * 9007199254740992 ≤ (0 * b + a * 1) * (d * 1) * 9007199254740992 + 8 * (d * 1 * (1 * b))
     up_at a b c d z = rw z (omega arith)
@@ -573,7 +573,7 @@ add_both a b e f A B h k =
     let N = fractions_add none none none_pos none_pos in
     let X = fractions_add a b A B in
     record {
-      up_to_lem = s_grow (a ⊹ b) none (e + f + 0) (e + f) (omega arith) (s_trans (a ⊹ b) (none ⊹ none) none (e + f) 0 X N none_pos (s_add a none b none e f A none_pos B none_pos h.up_to_lem k.up_to_lem) none_twice.0);
+      up_to = s_grow (a ⊹ b) none (e + f + 0) (e + f) (omega arith) (s_trans (a ⊹ b) (none ⊹ none) none (e + f) 0 X N none_pos (s_add a none b none e f A none_pos B none_pos h.up_to k.up_to) none_twice.0);
       down_to = s_grow none (a ⊹ b) (0 + (e + f)) (e + f) (omega arith) (s_trans none (none ⊹ none) (a ⊹ b) 0 (e + f) none_pos N X none_twice.1 (s_add none a none b e f none_pos A none_pos B h.down_to k.down_to));
     }
 
@@ -592,7 +592,7 @@ next_to_nothing r c h k e =
     let A = fractions_add (times r.x c.x ⊹ times r.y c.y) (times r.z c.z) XY (times_pos r.z c.z) in
     let n : SNear (dot r c) (dot3 r c) 2304 = dot_signed r c 32 8 8 h k (lit≤ tt) (lit≤ tt) in
     record {
-      up_to_lem = s_trans (signed_of (dot r c)) (dot3 r c) none 2304 24 (signed_pos (dot r c)) A none_pos n.above a.up_to_lem;
+      up_to = s_trans (signed_of (dot r c)) (dot3 r c) none 2304 24 (signed_pos (dot r c)) A none_pos n.above a.up_to;
       down_to = s_trans none (dot3 r c) (signed_of (dot r c)) 24 2304 none_pos A (signed_pos (dot r c)) a.down_to n.below;
     }
 
@@ -621,7 +621,7 @@ module _ (low high : Float) (s : Step low high) (r c : Vec3) (h : Sized r 32) (k
       no b = above_limit high (dot r c) (64 * s.K + 66816) s.high_plus (product_finite r c h k) s.high_is l b
 
       go : (b : Bool) → eq (root_of (dot r r)) F.zero ≡ b → lt low (dot (if b then origin else unit_of r) c) ≡ true
-      go true e = absurd (no (s_grow (signed_of (dot r c)) none 2328 (64 * s.K + 66816) (omega arith) (next_to_nothing r c h k e).up_to_lem))
+      go true e = absurd (no (s_grow (signed_of (dot r c)) none 2328 (64 * s.K + 66816) (omega arith) (next_to_nothing r c h k e).up_to))
       go false e =
           let w = rooting_of r 32 (lit≤ tt) h e in
           let d = dot (unit_of r) c in

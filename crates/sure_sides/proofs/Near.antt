@@ -52,12 +52,12 @@ at_shut : (x y d D e : ℕ) → y * 9007199254740992 ≤ x * 9007199254740992 + 
 at_shut x y d D e h = omega (arith, mul-le-mul_right (d * D) h)
 
 shut : (a z : Z) (d D e : ℕ) → Close a d z D e → Both (at a d) (at z D) e
-shut a z d D e h = record { up_to_lem = shut_at (a.p * D + z.q * d) (z.p * d + a.q * D) d D e h.above; down_to = at_shut (a.p * D + z.q * d) (z.p * d + a.q * D) d D e h.below }
+shut a z d D e h = record { up_to = shut_at (a.p * D + z.q * d) (z.p * d + a.q * D) d D e h.above; down_to = at_shut (a.p * D + z.q * d) (z.p * d + a.q * D) d D e h.below }
 
 moved : (x : Float) (a b : Signed) (e f : ℕ) → Fractions a → Fractions b → SNear x a e → Both a b f → SNear x b (e + f)
 moved x a b e f A B h k = record {
   finite = h.finite;
-  above = s_trans (signed_of x) a b e f (signed_pos x) A B h.above k.up_to_lem;
+  above = s_trans (signed_of x) a b e f (signed_pos x) A B h.above k.up_to;
   below = s_grow b (signed_of x) (f + e) (e + f) (omega arith) (s_trans b a (signed_of x) f e B A (signed_pos x) k.down_to h.below);
 }
 

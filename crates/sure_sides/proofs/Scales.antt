@@ -94,7 +94,7 @@ flipped a b h = sym h
 
 -- a scaled by f is near b: then so are their products with a fraction g of at most w, turned or not
 pub record Both (a b : Signed) (e : ℕ) : Type 0 where
-  pub up_to_lem : SLe a b e
+  pub up_to : SLe a b e
   pub down_to : SLe b a e
 
 pub product_both : (f g : Frac) (t : Bool) (a b : Signed) (e w : ℕ) → Pos f → Pos g → Fractions a → Fractions b → g.num ≤ w * g.den → Both (scale f a) b e
@@ -107,11 +107,11 @@ product_both f g t a b e w F' G A B l h =
     let X : Fractions x = scale_pos f (turn t (scale g a)) F' (turn_pos t (scale g a) (scale_pos g a G A)) in
     let Y : Fractions y = turn_pos t (scale g (scale f a)) (scale_pos g (scale f a) G (scale_pos f a F' A)) in
     let Z : Fractions z = turn_pos t (scale g b) (scale_pos g b G B) in
-    let u : SLe (scale g (scale f a)) (scale g b) (e * w) = s_scale g (scale f a) b e (e * w) G (scale_pos f a F' A) B h.up_to_lem k in
+    let u : SLe (scale g (scale f a)) (scale g b) (e * w) = s_scale g (scale f a) b e (e * w) G (scale_pos f a F' A) B h.up_to k in
     let v : SLe (scale g b) (scale g (scale f a)) (e * w) = s_scale g b (scale f a) e (e * w) G B (scale_pos f a F' A) h.down_to k in
     let o : SSame x y = exchange f g t a in
     record {
-      up_to_lem = s_grow x z (0 + e * w) (e * w) (omega arith) (s_trans x y z 0 (e * w) X Y Z (same_le x y o) (s_turn t (scale g (scale f a)) (scale g b) (e * w) u v));
+      up_to = s_grow x z (0 + e * w) (e * w) (omega arith) (s_trans x y z 0 (e * w) X Y Z (same_le x y o) (s_turn t (scale g (scale f a)) (scale g b) (e * w) u v));
       down_to = s_grow z x (e * w + 0) (e * w) (omega arith) (s_trans z y x (e * w) 0 Z Y X (s_turn t (scale g b) (scale g (scale f a)) (e * w) v u) (same_le y x (flipped x y o)));
     }
 

@@ -2,7 +2,7 @@
 // `host record` writes the file; its format stands at the top of oracle/host/src/record.rs.
 ghost use Rattle.std.specs.Prelude.{◌+◌, ◌*◌, ◌≤◌, ◌<◌, length};
 
-use exports::{floats, loops};
+use exports::{floats, loops, minor_arcs};
 use libc::STDOUT_FILENO;
 
 // What came of a record.
@@ -64,21 +64,21 @@ fn ask_loops(export: u64, a: &[u8], b: &[u8], out: &mut [u8]) -> u32 {
 
 fn ask_arcs(export: u64, a: &[u8], b: &[u8], out: &mut [u8]) -> u32 {
     if export == 12 {
-        return exports_arcs::desk_arc(a, b, out);
+        return minor_arcs::desk_arc(a, b, out);
     }
     if export == 13 {
-        return exports_arcs::desk_arc_opposite(a, out);
+        return minor_arcs::desk_arc_opposite(a, out);
     }
     if export == 14 {
-        return exports_arcs::desk_arc_side(a, b);
+        return minor_arcs::desk_arc_side(a, b);
     }
     if export == 15 {
-        return exports_arcs::desk_arc_contains(a, b);
+        return minor_arcs::desk_arc_contains(a, b);
     }
     if export == 16 {
-        return exports_arcs::desk_arc_intersection(a, b, out);
+        return minor_arcs::desk_arc_intersection(a, b, out);
     }
-    exports_arcs::desk_arc_relate(a, b, out)
+    minor_arcs::desk_arc_relate(a, b, out)
 }
 
 fn full_in(out: &mut [u8], floats: &mut [f64]) -> u32

@@ -1,4 +1,4 @@
--- The insides of a ring whose positions are not refused have no component above 2, as its corners have none, and are finite. Assumes nothing.
+-- The insides of a ring whose positions are not refused are finite: means of its corners, none of which has a component above 2. Assumes nothing.
 use Prim.Native.Nat.{ℕ, ◌<◌}
 use mathlib.Core.Path.{◌≡◌, refl}
 use mathlib.Core.Bool.{Bool, true, false, ◌||◌, cond}
@@ -24,7 +24,7 @@ use Rattle.loop_header.specs.Loops.{insides_fault}
 use Rattle.loop_build.specs.Build.{insides_for}
 use Rattle.theorem_built.proofs.Normals.{sized_fine}
 
-abbrev pub AtMostTwo : Vec3 → Type 0
+abbrev AtMostTwo : Vec3 → Type 0
 AtMostTwo v = Sized v 2
 
 if_sized : (c : Bool) (p q : Point) → AtPoint AtMostTwo p → AtPoint AtMostTwo q → AtPoint AtMostTwo (if c then p else q)
@@ -40,16 +40,12 @@ two_fine I.Absent h = refl
 two_fine (I.Two a b) h = first_fine _ _ (sized_fine a 2 h.0) (sized_fine b 2 h.1)
 
 -- three corners need none
-cond_sized : (c : Bool) (i : Insides) → InInsides AtMostTwo i → InInsides AtMostTwo (cond c i I.Absent)
-cond_sized true i h = h
-cond_sized false i h = tt
+cond_fine : (c : Bool) (i : Insides) → insides_fault i ≡ 0 → insides_fault (cond c i I.Absent) ≡ 0
+cond_fine true i h = h
+cond_fine false i h = refl
 
-module _ (ps : List Float) (cs : List ℕ) (r : Ring ps cs) (s : (j : ℕ) → j < length cs → Sized (pos_at ps j) 2) where
-  pub insides_sized : InInsides AtMostTwo (insides_for ps cs)
-  unfolding insides_for
-  insides_sized =
-      let all = insides_means AtMostTwo ps cs r (λ x y z h k j. triangle_sized (pos_at ps x) (pos_at ps y) (pos_at ps z) (s x h) (s y k) (s z j)) in
-      cond_sized (ltb 3 (length cs)) (insides_of ps cs) all
-
-  pub insides_fine : insides_fault (insides_for ps cs) ≡ 0
-  insides_fine = two_fine (insides_for ps cs) insides_sized
+pub insides_fine : (ps : List Float) (cs : List ℕ) → Ring ps cs → ((j : ℕ) → j < length cs → Sized (pos_at ps j) 2) → insides_fault (insides_for ps cs) ≡ 0
+unfolding insides_for
+insides_fine ps cs r s =
+    let all = insides_means AtMostTwo ps cs r (λ x y z h k j. triangle_sized (pos_at ps x) (pos_at ps y) (pos_at ps z) (s x h) (s y k) (s z j)) in
+    cond_fine (ltb 3 (length cs)) (insides_of ps cs) (two_fine (insides_of ps cs) all)

@@ -36,11 +36,11 @@ module _ (l : List Float) (n : ℕ) (f : Fine l n) where
   normal_at_sized false k h = edge_sized k h
 
   module _ (reversed : Bool) where
-    pub normals_sized : (k : ℕ) → k < n → Sized (pos_at (normals_of l n reversed) k) 2
-    normals_sized k h =
+    read_sized : (k : ℕ) → k < n → Sized (pos_at (normals_of l n reversed) k) 2
+    read_sized k h =
         let s = normal_at_sized reversed k h in
         let v = normal_at l n reversed k in
         subst (λ (u : Vec3). Sized (vec u.x u.y u.z) 2) (sym (raw_written (normal_at l n reversed) n k h)) (vec_sized v.x v.y v.z 2 (lit≤ tt) s.x_is s.y_is s.z_is)
 
     pub normals_fine : vectors_fault (normals_of l n reversed) n ≡ 0
-    normals_fine = first_of_fine (normal_fault (normals_of l n reversed)) n 0 (λ j h. rw (zero-add j) (sized_fine (pos_at (normals_of l n reversed) j) 2 (normals_sized j h)))
+    normals_fine = first_of_fine (normal_fault (normals_of l n reversed)) n 0 (λ j h. rw (zero-add j) (sized_fine (pos_at (normals_of l n reversed) j) 2 (read_sized j h)))

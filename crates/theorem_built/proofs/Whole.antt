@@ -1,5 +1,5 @@
 -- A loop as built is not refused, and of its three states it has the header and the slices that building gives. Assumes nothing.
-use Prim.Native.Nat.{ℕ, zero, suc, ◌*◌, ◌/◌, ◌≤◌, ◌<◌}
+use Prim.Native.Nat.{ℕ, zero, suc, ◌*◌, ◌/◌, ◌≤◌}
 use mathlib.Core.Path.{◌≡◌, refl}
 use mathlib.Core.Bool.{Bool, true, false, cond}
 use mathlib.Core.List.{List, []}
@@ -16,7 +16,6 @@ use Rattle.vec3.proofs.Arrays.{size}
 use Rattle.sizes.proofs.Normal.{Fine, fine_of, position_sized}
 use Rattle.ring_corners.specs.Corners.{reversal, corner_at, normal_at, ring_of, normals_of, classes_of, all_both}
 use Rattle.ring_cut.specs.Cut.{Ring}
-use Rattle.ring_insides.proofs.Means.{InInsides}
 use Rattle.minor_arc.specs.declared.Mode.{Mode}
 use Rattle.loop_header.specs.declared.Header.{Header}
 use Rattle.loop_header.specs.Loops.{empty_header, full_header, threes_of, shape_fault, classes_fault, ring_fault, cap_fault, vectors_fault, cut_fault, loop_fault}
@@ -26,9 +25,9 @@ use Rattle.loop_build.proofs.Rooms.{Listed, list_fine, fine}
 use Rattle.loop_build.proofs.Builts.{codes_count, positions_fine, built_cuttable}
 use Rattle.loop_build.proofs.Modes.{modes}
 use Rattle.theorem_built.specs.Built.{Loop, handed_back, AsBuilt, as_built, ask}
-use Rattle.theorem_built.proofs.Normals.{normals_sized, normals_fine}
+use Rattle.theorem_built.proofs.Normals.{normals_fine}
 use Rattle.theorem_built.proofs.Caps.{bounded_fine, cap_bounded}
-use Rattle.theorem_built.proofs.Insides.{AtMostTwo, insides_sized, insides_fine}
+use Rattle.theorem_built.proofs.Insides.{insides_fine}
 
 -- ---- the three kinds
 abbrev pub empty_loop : Mode → Loop
@@ -39,12 +38,6 @@ full_loop mode weak = record { header = full_header mode weak; positions = []; n
 
 abbrev pub ring_loop : Mode → List Float → ℕ → Bool → Loop
 ring_loop mode l n reversed = record { header = ring_header mode l n reversed; positions = ring_of l n reversed; normals = normals_of l n reversed; classes = classes_of l n reversed }
-
--- its positions, normals and insides have no component above 2
-pub record SizedLoop (a : Loop) : Type 0 where
-  pub positions_sized : (i : ℕ) → i < a.header.count → AtMostTwo (pos_at a.positions i)
-  pub normals_sized : (i : ℕ) → i < a.header.count → AtMostTwo (pos_at a.normals i)
-  pub insides_sized : InInsides AtMostTwo a.header.insides
 
 -- ---- a ring
 module _ (l : List Float) (d : Doubles l) (f : list_fault l ≡ 0) (reversed : Bool) (n : ℕ) (o : n ≡ opened_count l) (least : 3 ≤ n) where
@@ -63,26 +56,13 @@ module _ (l : List Float) (d : Doubles l) (f : list_fault l ≡ 0) (reversed : B
       let q = codes_count l n reversed in
       record { whole = omega (arith, s, q); least = omega (arith, q); most = omega (arith, q, known.small, o) }
 
-  corner_sized : (j : ℕ) → j < n → AtMostTwo (pos_at (ring_of l n reversed) j)
-  corner_sized j h = position_sized (pos_at (ring_of l n reversed) j) (corners j h)
-
-  pub ring_sized : (mode : Mode) → SizedLoop (ring_loop mode l n reversed)
-  unfolding ring_header
-  ring_sized mode =
-      let q = codes_count l n reversed in
-      record {
-        positions_sized = corner_sized;
-        normals_sized = normals_sized l n listed reversed;
-        insides_sized = insides_sized (ring_of l n reversed) (classes_of l n reversed) ring (λ j h. corner_sized j (omega (arith, q)));
-      }
-
   vectors_fine : (mode : Mode) → vectors_fault (ring_header mode l n reversed) (normals_of l n reversed) ≡ 0
   unfolding vectors_fault ring_header
   vectors_fine mode =
       let q = codes_count l n reversed in
       first_fine _ _ (normals_fine l n listed reversed)
       (first_fine _ _ (bounded_fine _ (cap_bounded l n listed (omega (arith, known.small, o))))
-      (insides_fine (ring_of l n reversed) (classes_of l n reversed) ring (λ j h. corner_sized j (omega (arith, q)))))
+      (insides_fine (ring_of l n reversed) (classes_of l n reversed) ring (λ j h. position_sized (pos_at (ring_of l n reversed) j) (corners j (omega (arith, q))))))
 
   pub ring_fine : (mode : Mode) → loop_fault (ring_header mode l n reversed) (ring_of l n reversed) (normals_of l n reversed) (classes_of l n reversed) ≡ 0
   unfolding loop_fault cut_fault threes_of ring_header
@@ -147,15 +127,6 @@ some mode l ps ns cs d z =
 
 pub whole : (a : Loop) → AsBuilt a → ask loop_fault a ≡ 0
 whole = of_three (λ a. ask loop_fault a ≡ 0) empty_fine full_fine (λ mode l d f reversed n o g. ring_fine l d f reversed n o g mode)
-
--- none is at an index of no corner, and the two others have no insides
-bare_sized : (a : Loop) → a.header.count ≡ 0 → InInsides AtMostTwo a.header.insides → SizedLoop a
-bare_sized a e h = record { positions_sized = λ i l. absurd (omega (arith, l, e)); normals_sized = λ i l. absurd (omega (arith, l, e)); insides_sized = h }
-
-pub sized_built : (a : Loop) → AsBuilt a → SizedLoop a
-sized_built =
-    of_three SizedLoop (λ mode. bare_sized (empty_loop mode) refl tt) (λ mode weak. bare_sized (full_loop mode weak) refl tt)
-    (λ mode l d f reversed n o g. ring_sized l d f reversed n o g mode)
 
 pub stored_mode : (mode : Mode) (l ps ns : List Float) (cs : List ℕ) (h : Header) → (build_outcome mode l ps ns cs).answer ≡ B.loop h → h.mode ≡ mode
 stored_mode mode l ps ns cs h e = (modes l ps ns cs).stored mode h e

@@ -10,7 +10,7 @@ use lib.Dec.{ltb, eqb}
 use borrow.Author.Tests.{lt-ltb, ltb-true}
 use Rattle.loop_build.specs.Build as B
 use Rattle.loop_ask.specs.Answers as Ask
-use Rattle.scene_ask.specs.Ask.{pair_in}
+use Rattle.scene_store.specs.Store.{pair_in}
 use Rattle.scene_far.specs.declared.Said.{Said}
 use Rattle.scene_far.specs.declared.Said.TheVariants as Said
 use Rattle.scene_records.specs.declared.Fault.{Fault}

@@ -26,12 +26,10 @@ use Rattle.loop_build.specs.Build.{opened_count, build_outcome}
 use Rattle.loop_build.specs.Why.{ListWhy, not_threes, too_many, in_positions, RoomWhy, short_positions, short_normals, short_classes, fewer, all_fit, BuildWhy}
 use Rattle.loop_build.proofs.Exact as Build
 use Rattle.loop_ask.specs.Answers as Ask
-use Rattle.loop_ask.specs.Questions.{place_answer}
 use Rattle.loop_ask.proofs.Exact as Questions
 use Rattle.scene_records.specs.declared.Read.{Read}
 use Rattle.scene_records.specs.Records.{u16_of, floats_at, read_at}
-use Rattle.scene_store.specs.Store.{corners, codes, built_at}
-use Rattle.scene_ask.specs.Ask.{pair_in}
+use Rattle.scene_store.specs.Store.{corners, codes, built_at, place_in, pair_in}
 use Rattle.scene_store.proofs.Counts.{floats_count}
 use Rattle.scene_far.specs.declared.Said.{Said}
 use Rattle.scene_far.specs.declared.Said.TheVariants as Said
@@ -188,8 +186,8 @@ module _ (s : List ℕ) (w : Scene) where
         absurd (omega arith)
     place_why a b k (goes_on_lem y z) h = (position_number (cleared p) k z h, standing _ 1 k (alone k z h) h)
 
-    place_own : (number : ℕ) → index_of w.areas number < length w.areas → (k : ℕ)
-        → place_answer (met w number).header (corners (met w number) w.positions) (corners (met w number) w.normals) (codes (met w number) w.classes) p ≡ Ask.refused k → OfOne k
+    place_own : (number : ℕ) → index_of w.areas number < length w.areas → (k : ℕ) → place_in (met w number) w.positions w.normals w.classes p ≡ Ask.refused k → OfOne k
+    unfolding place_in
     place_own number m k e =
         let a = met w number in
         let y = ((Questions.exact a.header (corners a w.positions) (corners a w.normals) (codes a w.classes)).place p).given_why k e in

@@ -26,8 +26,7 @@ use Rattle.scene_records.specs.declared.Read.{Read}
 use Rattle.scene_records.specs.declared.Read.TheVariants as Read
 use Rattle.scene_records.specs.Records.{read_at, floats_at}
 use Rattle.scene_store.specs.declared.Area.{Area}
-use Rattle.scene_store.specs.Store.{nobody, corners, codes, after, built_at}
-use Rattle.scene_ask.specs.Ask.{pair_in}
+use Rattle.scene_store.specs.Store.{nobody, corners, codes, after, built_at, pair_in}
 use Rattle.scene_far.specs.declared.Said.{Said}
 use Rattle.scene_far.specs.declared.Said.TheVariants as Said
 use Rattle.scene_notes.specs.declared.Judged.{Judged}

@@ -30,7 +30,7 @@ ten_for k = cond (leb 20 k) 10 k
 
 abbrev pub line_with_ten : Line → List ℕ
 line_with_ten (Area number h triangles) = []
-line_with_ten (Place number answer by) = []
+line_with_ten (Place number answer) = []
 line_with_ten (Pair first second relation) = []
 line_with_ten (Far number bits) = []
 line_with_ten (End records) = end_line records

@@ -7,7 +7,6 @@ use Rattle.root.specs.Root.{root_of}
 use Rattle.vec3.specs.Vec.{unit_vec, unit, axis_for, orthogonal_to}
 use Rattle.angle.specs.Arctan.{size, sum_of, acute, quadrant, atan2}
 use Rattle.base.specs.Sides.{sign_of, retest_of, side_of}
-use Rattle.base.specs.Close.{retested}
 use Rattle.base.specs.Turns.{sine_of}
 use Rattle.judge.specs.Judge.{vector_fault, fault_of}
 use Rattle.chord_length.specs.Chords.{from_squared_length, joined, sum, later_max}
@@ -16,7 +15,6 @@ use Rattle.ring_turns.specs.Turns.{edge_normal, turn_at, turn_sum}
 use Rattle.ring_corners.specs.Corners.{opened, reversal, normal_at, class_by, class_at, all_both}
 use Rattle.ring_edges.specs.Edges.{has_vertex}
 use Rattle.ring_place.specs.Places.{in_triangle, sides}
-use Rattle.ring_place.specs.Close.{close_triangle}
 use Rattle.ring_triangle.specs.Inside.{fits, edge_side, fits_edges, is_corner, inside_or_edge}
 use Rattle.ring_ears.specs.Ears.{blocks, ear, reclassify, reclassify_both, cut_at}
 use Rattle.ring_cut.specs.Cut.{cutting, cut_ring_outcome}
@@ -24,7 +22,6 @@ use Rattle.ring_check.specs.Accepted.{fits_at, same_numbers, accepts, accepted}
 use Rattle.loop_header.specs.Loops.{shape_fault, threes_of, ring_fault, classes_fault, cut_fault, check_fault, cap_fault, vectors_fault, loop_fault}
 use Rattle.loop_build.specs.Build.{list_fault, room_fault, refusal, ring_header, insides_for, made, build_outcome}
 use Rattle.loop_ask.specs.Places.{place_without}
-use Rattle.loop_ask.specs.Close.{close_without}
 use Rattle.loop_ask.specs.Questions.{pair_fault, place_answer, query_fault}
 use Rattle.loop_triangles.specs.Triangles.{ring_outcome, triangulate_outcome, accepts_answer}
 use Rattle.loop_relate.specs.Relations.{relate_fault, by_caps, by_states, relate_answer}
@@ -36,7 +33,7 @@ of_floats = 0
 
 -- sides, and a position in a triangle
 unfoldable pub of_sides : ℕ
-unfolding of_floats sign_of retest_of side_of retested fits edge_side fits_edges is_corner inside_or_edge
+unfolding of_floats sign_of retest_of side_of fits edge_side fits_edges is_corner inside_or_edge
 of_sides = 0
 
 -- edges and their turn sum
@@ -58,9 +55,9 @@ unfoldable pub of_caps : ℕ
 unfolding of_floats from_squared_length joined sum later_max grown bounding_cap intersects insides_for
 of_caps = 0
 
--- a place and its word, but for the crossings of a ring above three
+-- a place, but for the crossings of a ring above three
 unfoldable pub of_asking : ℕ
-unfolding of_judging of_caps has_vertex sides in_triangle place_without place_answer close_triangle close_without
+unfolding of_judging of_caps has_vertex sides in_triangle place_without place_answer
 of_asking = 0
 
 -- cutting and the checker

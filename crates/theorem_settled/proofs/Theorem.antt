@@ -12,20 +12,15 @@ unfolding opened
 openings a b c e = record { one = simp e; closed_once = simp e; closed_twice = simp e }
 
 pub settled : Settled
-unfolding Computing.of_checking Computing.of_relating Computing.of_asking
+unfolding Computing.of_checking Computing.of_relating
 settled = record {
   left = refl;
   right = refl;
   collinear = refl;
-  left_clear = refl;
-  right_clear = refl;
-  collinear_close = refl;
   root_4 = refl;
   root_least = refl;
   openings = openings;
   area_1_ring = refl;
-  inside_clear = refl;
-  outside_close = refl;
   full = refl;
   four_ring = refl;
   four_triangles = refl;

@@ -8,9 +8,7 @@ use Rattle.root.specs.Root.{root_of}
 use Rattle.vec3.specs.declared.Vec3.{Vec3}
 use Rattle.vec3.specs.Vec.{cleared, axis_x, axis_y, axis_z, same, coords}
 use Rattle.base.specs.declared.Side.TheVariants.{Left, Right, Collinear}
-use Rattle.base.specs.declared.Decided.TheVariants.{First, Retest}
 use Rattle.base.specs.Sides.{side_of}
-use Rattle.base.specs.Close.{test_of}
 use Rattle.minor_arc.specs.declared.Mode.TheVariants.{Plain}
 use Rattle.ring_corners.specs.Corners.{opened}
 use Rattle.loop_header.specs.declared.Header.{Header}
@@ -19,9 +17,6 @@ use Rattle.loop_header.specs.declared.State.TheVariants.{Ring}
 use Rattle.loop_header.specs.Loops.{empty_header, full_header}
 use Rattle.loop_build.specs.Build.{Told, refused, loop, Outcome, build_outcome, kept}
 use Rattle.loop_ask.specs.Answers as Answers
-use Rattle.loop_ask.specs.Words as Words
-use Rattle.loop_ask.specs.Words.{Worded}
-use Rattle.loop_ask.specs.Questions.{place_worded}
 use Rattle.loop_triangles.specs.Triangles as Triangles
 use Rattle.loop_triangles.specs.Triangles.{triangulate_outcome, accepts_answer}
 use Rattle.loop_relate.specs.Relations.{relate_answer}
@@ -106,16 +101,6 @@ four_cut = triangulate_outcome (header_of four_built.answer) four_built.position
 abbrev pub four_checked : List ℕ → Answers.Told
 four_checked tris = accepts_answer (header_of four_built.answer) four_built.positions four_built.classes tris
 
--- area 1 as built, asked for a place with its word; (0.48, 0.6, 0.64), and (0.6, 0, 0.8), which is on the edge from Z to X
-abbrev pub area_1_asked : Vec3 → Worded
-area_1_asked p = place_worded (header_of (built area_1 3).answer) (built area_1 3).positions (built area_1 3).normals (built area_1 3).classes p
-
-abbrev pub in_area_1 : Vec3
-in_area_1 = at (of_bits binary64 0x3fde_b851_eb85_1eb8) six_tenths (of_bits binary64 0x3fe4_7ae1_47ae_147b)
-
-abbrev pub on_area_1 : Vec3
-on_area_1 = at six_tenths zero eight_tenths
-
 -- FULL and EMPTY as built, related
 abbrev pub full_one_lem : Header
 full_one_lem = header_of (built flat_list 3).answer
@@ -131,10 +116,6 @@ pub record Settled : Type 0 where
   pub left : side_of axis_x axis_y axis_z ≡ Left
   pub right : side_of axis_x axis_z axis_y ≡ Right
   pub collinear : side_of axis_x axis_x axis_y ≡ Collinear
-  -- the first test decides the first two, the retest the third
-  pub left_clear : (test_of axis_x axis_y axis_z).by ≡ First
-  pub right_clear : (test_of axis_x axis_z axis_y).by ≡ First
-  pub collinear_close : (test_of axis_x axis_x axis_y).by ≡ Retest
   -- the root of 4 is 2, of 2^-1074 is 2^-537
   pub root_4 : root_of four ≡ two
   pub root_least : root_of least ≡ root_of_least
@@ -142,9 +123,6 @@ pub record Settled : Type 0 where
   pub openings : (a b c : Vec3) → same (cleared a) (cleared a) ≡ true → Openings a b c
   -- the ring of area 1 is Z, Y, X, all convex; its line says `3 ring reversed steady`
   pub area_1_ring : seen (built area_1 3) ≡ record { state = Ring; count = 3; reversed = true; weak = false; corners = coords axis_z ++ coords axis_y ++ coords axis_x; classes = 0 ∷ 0 ∷ 0 ∷ [] }
-  -- its places' lines say `inside clear` and `outside close`
-  pub inside_clear : area_1_asked in_area_1 ≡ Words.answer 1 First
-  pub outside_close : area_1_asked on_area_1 ≡ Words.answer 0 Retest
   -- X, (0.6,0.8,0), Y is FULL, its slices as they were
   pub full : built flat_list 3 ≡ kept (loop (full_header Plain false)) (blank 3) (blank 3) (blank_classes 3)
   -- (0.6,0,0.8), (0,0.6,0.8), (-0.6,0,0.8), (0,-0.6,0.8) is reversed, and all its corners are convex

@@ -7,7 +7,7 @@ use Rattle.arcs.proofs.Unique as Arcs
 use Rattle.loop_build.proofs.Unique.{told_apart, build_unique}
 use Rattle.loop_ask.proofs.Unique as Ask
 use Rattle.loop_distances.proofs.Unique.{one_distance, distance_to_unique, distance_to_boundary_unique}
-use Rattle.loop_triangles.proofs.Unique.{one_cut, one_cut_close, triangulate_unique, triangulate_close_unique, accepts_unique}
+use Rattle.loop_triangles.proofs.Unique.{one_cut, triangulate_unique, accepts_unique}
 use Rattle.loop_relate.proofs.Unique.{one_relation, relate_unique}
 use Rattle.bytes_loop.specs.Outcome.{Outcome, outcome}
 use Rattle.exports.proofs.Unique.{one_outcome}
@@ -27,7 +27,6 @@ definitions = record {
   answered = Ask.one_answered;
   distance = one_distance;
   cut = one_cut;
-  cut_close = one_cut_close;
   related = one_relation;
 }
 
@@ -59,7 +58,6 @@ of_loops = record {
   distance_to = distance_to_unique;
   distance_to_boundary = distance_to_boundary_unique;
   triangulate = triangulate_unique;
-  triangulate_close = triangulate_close_unique;
   accepts = accepts_unique;
   relate = relate_unique;
 }
@@ -124,11 +122,6 @@ of_exports = record {
   desk_far = λ κs a. at_3;
   desk_arc_far = λ κs a. at_3;
   desk_far_f64 = λ κs a. at_8;
-  desk_place_close = λ κs a x y v w p q. (p ∙ sym q, refl);
-  desk_place_close_f64 = λ κs a x y v w p q. (p ∙ sym q, refl);
-  desk_arc_relate_close = λ κs a. at_3;
-  desk_arc_relate_long_close = λ κs a. at_3;
-  desk_triangles_close = λ κs a. at_2;
 }
 
 of_probes : OfProbes

@@ -3,13 +3,10 @@
 -- Definitions only.
 use Rattle.outcomes.specs.Outcomes.{One, OneToOne}
 use Rattle.arcs.specs.Answers as Arcs
-use Rattle.arcs.specs.Words.{worded_related}
 use Rattle.loop_build.specs.Build as Build
-use Rattle.loop_ask.specs.Answers.{toldAnswered}
-use Rattle.loop_ask.specs.Words.{worded_placed}
+use Rattle.loop_ask.specs.Answers.{toldPlaced, toldAnswered}
 use Rattle.loop_distances.specs.Distances.{told_distance}
 use Rattle.loop_triangles.specs.Triangles.{told_cut}
-use Rattle.loop_triangles.specs.Close.{worded_cut}
 use Rattle.loop_relate.specs.Relations.{told_related}
 use Rattle.root.proofs.root as Root
 use Rattle.root.proofs.root_bits as RootBits
@@ -29,7 +26,6 @@ use Rattle.loop_ask.proofs.is_equivalent as LoopIsEquivalent
 use Rattle.loop_distances.proofs.distance_to as ArcDistanceTo
 use Rattle.loop_distances.proofs.distance_to_boundary as LoopDistanceToBoundary
 use Rattle.loop_triangles.proofs.triangulate as LoopTriangulate
-use Rattle.loop_triangles.proofs.triangulate_close as LoopTriangulateClose
 use Rattle.loop_triangles.proofs.accepts as LoopAccepts
 use Rattle.loop_relate.proofs.relate as LoopRelate
 use Rattle.exports.proofs.floats.desk_root as DeskRoot
@@ -51,43 +47,37 @@ use Rattle.exports.proofs.loops.desk_equivalent as DeskEquivalent
 use Rattle.exports.proofs.loops.desk_pair_f64 as DeskPairF64
 use Rattle.exports.proofs.loops.desk_build_f64 as DeskBuildF64
 use Rattle.exports.proofs.loops.desk_build_long_f64 as DeskBuildLongF64
-use Rattle.exports_arcs.proofs.desk_arc as DeskArc
-use Rattle.exports_arcs.proofs.desk_arc_opposite as DeskArcOpposite
-use Rattle.exports_arcs.proofs.desk_arc_side as DeskArcSide
-use Rattle.exports_arcs.proofs.desk_arc_contains as DeskArcContains
-use Rattle.exports_arcs.proofs.desk_arc_intersection as DeskArcIntersection
-use Rattle.exports_arcs.proofs.desk_arc_relate as DeskArcRelate
-use Rattle.exports_arcs.proofs.desk_arc_intersection_long as DeskArcIntersectionLong
-use Rattle.exports_arcs.proofs.desk_arc_relate_long as DeskArcRelateLong
+use Rattle.exports.proofs.minor_arcs.desk_arc as DeskArc
+use Rattle.exports.proofs.minor_arcs.desk_arc_opposite as DeskArcOpposite
+use Rattle.exports.proofs.minor_arcs.desk_arc_side as DeskArcSide
+use Rattle.exports.proofs.minor_arcs.desk_arc_contains as DeskArcContains
+use Rattle.exports.proofs.minor_arcs.desk_arc_intersection as DeskArcIntersection
+use Rattle.exports.proofs.minor_arcs.desk_arc_relate as DeskArcRelate
+use Rattle.exports.proofs.minor_arcs.desk_arc_intersection_long as DeskArcIntersectionLong
+use Rattle.exports.proofs.minor_arcs.desk_arc_relate_long as DeskArcRelateLong
 use Rattle.exports_scene.proofs.desk_scene as DeskScene
 use Rattle.exports_far.proofs.desk_radians as DeskRadians
 use Rattle.exports_far.proofs.desk_far as DeskFar
 use Rattle.exports_far.proofs.desk_arc_far as DeskArcFar
 use Rattle.exports_far.proofs.desk_far_f64 as DeskFarF64
-use Rattle.exports_close.proofs.desk_place_close as DeskPlaceClose
-use Rattle.exports_close.proofs.desk_place_close_f64 as DeskPlaceCloseF64
-use Rattle.exports_arcs.proofs.desk_arc_relate_close as DeskArcRelateClose
-use Rattle.exports_arcs.proofs.desk_arc_relate_long_close as DeskArcRelateLongClose
-use Rattle.exports_close.proofs.desk_triangles_close as DeskTrianglesClose
 use Rattle.scene_run.proofs.run as SceneRun
 use Rattle.test_probes.proofs.leaf_vec as LeafVec
 use Rattle.test_probes.proofs.leaf_number as LeafNumber
 use Rattle.test_probes.proofs.leaf_case as LeafCase
 use Rattle.test_probes.proofs.leaf_cap as LeafCap
 
--- the definitions of the answers that are enums, each one-to-one; where an answer has a word, with it
+-- the definitions of the answers that are enums, each one-to-one
 pub record Definitions : Type 0 where
   pub arc_made : OneToOne Arcs.toldMade
   pub arc_sided : OneToOne Arcs.toldSided
   pub arc_contained : OneToOne Arcs.toldContained
   pub arc_met : OneToOne Arcs.toldMet
-  pub arc_related : OneToOne worded_related
+  pub arc_related : OneToOne Arcs.told_related
   pub built : OneToOne Build.told
-  pub placed : OneToOne worded_placed
+  pub placed : OneToOne toldPlaced
   pub answered : OneToOne toldAnswered
   pub distance : OneToOne told_distance
   pub cut : OneToOne told_cut
-  pub cut_close : OneToOne worded_cut
   pub related : OneToOne told_related
 
 -- crate root
@@ -116,11 +106,10 @@ pub record OfLoops : Type 0 where
   pub distance_to : One ArcDistanceTo.Kinds.ps ArcDistanceTo.Kinds.r ArcDistanceTo.Reads.Post
   pub distance_to_boundary : One LoopDistanceToBoundary.Kinds.ps LoopDistanceToBoundary.Kinds.r LoopDistanceToBoundary.Reads.Post
   pub triangulate : One LoopTriangulate.Kinds.ps LoopTriangulate.Kinds.r LoopTriangulate.Reads.Post
-  pub triangulate_close : One LoopTriangulateClose.Kinds.ps LoopTriangulateClose.Kinds.r LoopTriangulateClose.Reads.Post
   pub accepts : One LoopAccepts.Kinds.ps LoopAccepts.Kinds.r LoopAccepts.Reads.Post
   pub relate : One LoopRelate.Kinds.ps LoopRelate.Kinds.r LoopRelate.Reads.Post
 
--- crates exports, exports_arcs, exports_scene, exports_far and exports_close
+-- crates exports, exports_scene and exports_far
 pub record OfExports : Type 0 where
   pub desk_root : One DeskRoot.Kinds.ps DeskRoot.Kinds.r DeskRoot.Reads.Post
   pub desk_atan2 : One DeskAtan2.Kinds.ps DeskAtan2.Kinds.r DeskAtan2.Reads.Post
@@ -154,11 +143,6 @@ pub record OfExports : Type 0 where
   pub desk_far : One DeskFar.Kinds.ps DeskFar.Kinds.r DeskFar.Reads.Post
   pub desk_arc_far : One DeskArcFar.Kinds.ps DeskArcFar.Kinds.r DeskArcFar.Reads.Post
   pub desk_far_f64 : One DeskFarF64.Kinds.ps DeskFarF64.Kinds.r DeskFarF64.Reads.Post
-  pub desk_place_close : One DeskPlaceClose.Kinds.ps DeskPlaceClose.Kinds.r DeskPlaceClose.Reads.Post
-  pub desk_place_close_f64 : One DeskPlaceCloseF64.Kinds.ps DeskPlaceCloseF64.Kinds.r DeskPlaceCloseF64.Reads.Post
-  pub desk_arc_relate_close : One DeskArcRelateClose.Kinds.ps DeskArcRelateClose.Kinds.r DeskArcRelateClose.Reads.Post
-  pub desk_arc_relate_long_close : One DeskArcRelateLongClose.Kinds.ps DeskArcRelateLongClose.Kinds.r DeskArcRelateLongClose.Reads.Post
-  pub desk_triangles_close : One DeskTrianglesClose.Kinds.ps DeskTrianglesClose.Kinds.r DeskTrianglesClose.Reads.Post
 
 -- crate test_probes
 pub record OfProbes : Type 0 where

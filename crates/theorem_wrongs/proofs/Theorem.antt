@@ -30,7 +30,7 @@ use Rattle.loop_triangles.proofs.triangulate as Triangulate
 use Rattle.loop_triangles.specs.declared.Cut.TheVariants.{Triangles}
 use Rattle.loop_triangles.specs.Triangles.{Outcome, triangulate_outcome}
 use Rattle.loop_relate.specs.Relations.{relate_answer}
-use Rattle.theorem_settled.specs.Settled.{at, built, blank, blank_classes, area_1, in_area_1, four_corners, four_built, four_checked, full_one_lem, empty_one_lem, related}
+use Rattle.theorem_settled.specs.Settled.{at, built, blank, blank_classes, area_1, four_corners, four_built, four_checked, full_one_lem, empty_one_lem, related}
 use Rattle.theorem_settled.proofs.Computing as Computing
 use Rattle.theorem_modes.proofs.Computing.{of_pairs}
 use Rattle.theorem_modes.proofs.Rings.{ring}
@@ -41,13 +41,11 @@ use Rattle.theorem_wrongs.proofs.Angles.{of_angles}
 use Rattle.theorem_wrongs.proofs.Scenes.{of_scenes}
 use Rattle.theorem_wrongs.proofs.Distances.{of_distances}
 use Rattle.theorem_wrongs.proofs.Modes.{of_modes}
-use Rattle.theorem_wrongs.proofs.Words.{of_words}
 use Rattle.theorem_wrongs.proofs.Cutters.{by_the_rule}
 use Rattle.theorem_wrongs.proofs.Rings.{area_1_built, area_2_built, across_built}
 use Rattle.theorem_wrongs.proofs.Rings.{one_mean_built, round_z_built, repeated_built, four_corners_built, five_positions_built, to_and_fro_built, ear_at_first_built, ear_at_last_built}
 use Rattle.theorem_wrongs.specs.Modes.{header, placed}
-use Rattle.theorem_wrongs.specs.Words.{muted}
-use Rattle.theorem_wrongs.specs.Wrongs.{to_and_fro, cut_from, cut_into, checked, to_full, classes_by_side, one_mean, round_z, four_to, between, answer_alone}
+use Rattle.theorem_wrongs.specs.Wrongs.{in_area_1, to_and_fro, cut_from, cut_into, checked, to_full, classes_by_side, one_mean, round_z, muted, four_to, between, answer_alone}
 use Rattle.theorem_wrongs.specs.Wrongs.{cutting_by, cut_by, every_afresh, neighbours, cut_outcome}
 use Rattle.theorem_wrongs.specs.Wrongs.{OutsideAlways, DisjointAlways, BlankRing, Fan, EmptyPrograms, Traps, OfNumbers, OfBuilding, OfAsking, OfCutting, OfNeighbours, OfRelating, OfMute, OfContracts, Wrongs}
 
@@ -294,5 +292,4 @@ wrongs = record {
   of_scenes = of_scenes;
   of_distances = of_distances;
   of_modes = of_modes;
-  of_words = of_words;
 }

@@ -12,7 +12,7 @@ use Rattle.numbers.specs.Near.{near}
 use Rattle.root.specs.Root.{root_of}
 use Rattle.angle.specs.Arctan.{atan2}
 use Rattle.vec3.specs.declared.Vec3.{Vec3}
-use Rattle.vec3.specs.declared.Insides.TheVariants.{Two}
+use Rattle.vec3.specs.declared.Insides.TheVariants.{Absent, Two}
 use Rattle.vec3.specs.declared.Point.TheVariants.{At}
 use Rattle.vec3.specs.Vec.{axis_x, axis_y, axis_z, opposite, pos_at, coords}
 use Rattle.vec3.specs.Points.{midpoint}
@@ -35,11 +35,14 @@ use Rattle.theorem_wrongs.specs.Angles.{OfAngles}
 use Rattle.theorem_wrongs.specs.Scenes.{OfScenes}
 use Rattle.theorem_wrongs.specs.Distances.{OfDistances}
 use Rattle.theorem_wrongs.specs.Modes.{header, placed, OfModes}
-use Rattle.theorem_wrongs.specs.Words.{muted, OfWords}
-use Rattle.theorem_settled.specs.Settled.{six_tenths, eight_tenths, minus_six_tenths, at, built, blank, blank_classes, area_1, in_area_1, flat_list, four_built, four_cut, four_checked, full_one_lem, empty_one_lem, related}
+use Rattle.theorem_settled.specs.Settled.{six_tenths, eight_tenths, minus_six_tenths, at, built, blank, blank_classes, area_1, flat_list, four_built, four_cut, four_checked, full_one_lem, empty_one_lem, related}
 use Rattle.theorem_modes.specs.Longs.{in_the_other, in_the_one, pair}
 
 -- ---- the inputs
+-- the worked example's place in area 1: (0.48, 0.6, 0.64)
+abbrev pub in_area_1 : Vec3
+in_area_1 = at (of_bits binary64 0x3fde_b851_eb85_1eb8) (of_bits binary64 0x3fe3_3333_3333_3333) (of_bits binary64 0x3fe4_7ae1_47ae_147b)
+
 -- 10.0; 1 + 2^-41, whose square is 1 + 2^-40 when rounded; and 2^-600, whose square is 0 when rounded
 abbrev pub ten : Float
 ten = of_bits binary64 0x4024_0000_0000_0000
@@ -290,6 +293,10 @@ pub record OfRelating : Type 0 where
   pub second_loop_first : relate_answer (header four_built) [] [] [] (header (built area_1 3)) (built area_1 3).positions (built area_1 3).normals (3 ∷ 0 ∷ 0 ∷ []) ≡ refused 6 → ⊥
 
 -- ---- of a mute loop
+-- the header of a ring without its insides
+abbrev pub muted : Header → Header
+muted h = record { count = h.count; state = h.state; cap = h.cap; insides = Absent; reversed = h.reversed; weak = h.weak; mode = h.mode }
+
 -- how a ring with its header changed stands to another; the ring of four corners
 abbrev pub between : (Header → Header) → Build.Outcome → Build.Outcome → Told
 between change a b = relate_answer (change (header a)) a.positions a.normals a.classes (header b) b.positions b.normals b.classes
@@ -330,4 +337,3 @@ pub record Wrongs : Type 0 where
   pub of_scenes : OfScenes
   pub of_distances : OfDistances
   pub of_modes : OfModes
-  pub of_words : OfWords

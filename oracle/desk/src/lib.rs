@@ -82,7 +82,6 @@ pub const MOST_TEXT_BYTES: usize = 196_989;
 
 const REFUSED: u32 = 65_536;
 const SIZE_REFUSED: u64 = 1 << 32;
-const CLOSE: u32 = 32_768;
 const HEADER: usize = 88;
 
 fn answered(word: Option<u32>) -> Answered<u32> {
@@ -171,32 +170,6 @@ fn chord(word: Option<u32>, out: [u8; 8]) -> Answered<ChordLength> {
     answered(word).map(|_| ChordLength(f64::from_le_bytes(out)))
 }
 
-/// Which test decided an answer. `First` says nowhere that the answer is the one to trust: the side tests of arcs and places are handed
-/// computed normals and points.
-#[derive(Clone, Copy, Debug, PartialEq, Eq, Hash)]
-pub enum Decided {
-    /// Clear: the first test decided each side that the answer took.
-    First,
-    /// Close: some side that the answer took was so near that it needed the retest.
-    Retest,
-}
-
-impl Display for Decided {
-    /// The word that ends a scene's place line.
-    fn fmt(&self, f: &mut Formatter) -> fmt::Result {
-        f.write_str(match self {
-            Decided::First => "clear",
-            Decided::Retest => "close",
-        })
-    }
-}
-
-/// An answer without its mark, and what the mark says.
-fn decided(word: Option<u32>) -> Answered<(u32, Decided)> {
-    let w = answered(word)?;
-    Ok(if w >= CLOSE { (w - CLOSE, Decided::Retest) } else { (w, Decided::First) })
-}
-
 /// The 12 positions that a full loop's triangles number.
 pub fn full_positions() -> Answered<[Position; 12]> {
     let mut out = [0.0; 36];
@@ -234,16 +207,6 @@ pub enum Place {
     Inside,
     /// The loop cannot tell: a ring above three corners without insides. This is not `Outside`.
     Mute,
-}
-
-impl Place {
-    fn of(word: u32) -> Place {
-        match word {
-            0 => Place::Outside,
-            1 => Place::Inside,
-            _ => Place::Mute,
-        }
-    }
 }
 
 impl Display for Place {
@@ -357,13 +320,11 @@ impl Loop {
 
     /// Where a position lies.
     pub fn place(&self, p: Position) -> Answered<Place> {
-        answered(raw::desk_place(&self.0, &bytes(p))).map(Place::of)
-    }
-
-    /// Where a position lies, and which test decided it.
-    pub fn place_close(&self, p: Position) -> Answered<(Place, Decided)> {
-        let (place, by) = decided(raw::desk_place_close(&self.0, &bytes(p)))?;
-        Ok((Place::of(place), by))
+        Ok(match answered(raw::desk_place(&self.0, &bytes(p)))? {
+            0 => Place::Outside,
+            1 => Place::Inside,
+            _ => Place::Mute,
+        })
     }
 
     /// How far a position is from the border, inside or outside: 0 from an empty and from a full loop, which have none. Next to a corner it
@@ -387,21 +348,11 @@ impl Loop {
 
     /// Triangles of ring numbers; a full loop's are numbers of `full_positions`.
     pub fn triangulate(&self) -> Answered<Vec<[u16; 3]>> {
-        let mut out = self.room();
-        let n = answered(raw::desk_triangles(&self.0, &mut out))?;
-        Ok(triples(&out, n))
-    }
-
-    /// The same triangles, and which test decided them.
-    pub fn triangulate_close(&self) -> Answered<(Vec<[u16; 3]>, Decided)> {
-        let mut out = self.room();
-        let (n, by) = decided(raw::desk_triangles_close(&self.0, &mut out))?;
-        Ok((triples(&out, n), by))
-    }
-
-    /// Room for the triangles.
-    fn room(&self) -> Vec<u8> {
-        vec![0; 6 * if self.is_full() { 20 } else { self.count().saturating_sub(2) }]
+        let room = if self.is_full() { 20 } else { self.count().saturating_sub(2) };
+        let mut out = vec![0; 6 * room];
+        let n = answered(raw::desk_triangles(&self.0, &mut out))? as usize;
+        let number = |b: &[u8]| u16::from_le_bytes([b[0], b[1]]);
+        Ok(out[..6 * n].chunks(6).map(|t| [number(&t[0..2]), number(&t[2..4]), number(&t[4..6])]).collect())
     }
 
     /// Whether the triangles are cuts at eligible ears.
@@ -434,12 +385,6 @@ impl Loop {
     pub fn is_equivalent(&self, o: &Loop) -> Answered<bool> {
         yes(raw::desk_equivalent(&self.0, &o.0))
     }
-}
-
-/// The first n triangles that a call wrote.
-fn triples(out: &[u8], n: u32) -> Vec<[u16; 3]> {
-    let number = |b: &[u8]| u16::from_le_bytes([b[0], b[1]]);
-    out[..6 * n as usize].chunks(6).map(|t| [number(&t[0..2]), number(&t[2..4]), number(&t[4..6])]).collect()
 }
 
 impl Display for Loop {
@@ -489,18 +434,6 @@ pub enum ArcRelation {
     Touching(Position),
     /// They share this arc.
     Overlapping(Arc),
-}
-
-impl ArcRelation {
-    /// By the answer and what was written.
-    fn of(word: u32, out: [u8; 72]) -> ArcRelation {
-        match word {
-            0 => ArcRelation::Disjoint,
-            1 => ArcRelation::Intersecting(position(&out[..24])),
-            2 => ArcRelation::Touching(position(&out[..24])),
-            _ => ArcRelation::Overlapping(Arc(out)),
-        }
-    }
 }
 
 fn coordinates(f: &mut Formatter, p: Position) -> fmt::Result {
@@ -599,17 +532,12 @@ impl Arc {
             Mode::Plain => raw::desk_arc_relate(&self.0, &o.0, &mut out),
             Mode::Long => raw::desk_arc_relate_long(&self.0, &o.0, &mut out),
         })?;
-        Ok(ArcRelation::of(relation, out))
-    }
-
-    /// How two arcs stand to each other in that mode, and which test decided it.
-    pub fn relate_close_in(&self, mode: Mode, o: &Arc) -> Answered<(ArcRelation, Decided)> {
-        let mut out = [0; 72];
-        let (relation, by) = decided(match mode {
-            Mode::Plain => raw::desk_arc_relate_close(&self.0, &o.0, &mut out),
-            Mode::Long => raw::desk_arc_relate_long_close(&self.0, &o.0, &mut out),
-        })?;
-        Ok((ArcRelation::of(relation, out), by))
+        Ok(match relation {
+            0 => ArcRelation::Disjoint,
+            1 => ArcRelation::Intersecting(position(&out[..24])),
+            2 => ArcRelation::Touching(position(&out[..24])),
+            _ => ArcRelation::Overlapping(Arc(out)),
+        })
     }
 }
 

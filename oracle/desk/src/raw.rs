@@ -129,15 +129,4 @@ exports! {
     has_desk_arc_intersection_long desk_arc_intersection_long(a: bytes, b: bytes, out: out_bytes) -> u32;
     /// As `desk_arc_relate`, in long mode.
     has_desk_arc_relate_long desk_arc_relate_long(a: bytes, b: bytes, out: out_bytes) -> u32;
-    /// As `desk_place`, with 32,768 added where a side test needed the retest.
-    has_desk_place_close desk_place_close(of: bytes, position: bytes) -> u32;
-    /// As `desk_place_f64`, marked alike.
-    has_desk_place_close_f64 desk_place_close_f64(header: bytes, positions: floats, normals: floats, classes: bytes,
-        x: float, y: float, z: float) -> u32;
-    /// As `desk_arc_relate`, marked alike.
-    has_desk_arc_relate_close desk_arc_relate_close(a: bytes, b: bytes, out: out_bytes) -> u32;
-    /// As `desk_arc_relate_long`, marked alike.
-    has_desk_arc_relate_long_close desk_arc_relate_long_close(a: bytes, b: bytes, out: out_bytes) -> u32;
-    /// As `desk_triangles`, marked alike.
-    has_desk_triangles_close desk_triangles_close(of: bytes, out: out_bytes) -> u32;
 }

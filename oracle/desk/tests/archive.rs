@@ -1,8 +1,8 @@
 //! The safe face over the library itself. Nothing here passes without it: `oracle/ci` links target/staticlib/libdesk.a on
 //! x86-64, and elsewhere the same modules as `oracle/native` compiles them for that machine.
 use desk::{
-    Arc, ArcRelation, ChordLength, Decided, Ending, Error, Loop, MOST_SCENE_BYTES, MOST_TEXT_BYTES, Mode, Place,
-    Position, Refusal, Relation, Side, full_positions, raw, scene,
+    Arc, ArcRelation, ChordLength, Ending, Error, Loop, MOST_SCENE_BYTES, MOST_TEXT_BYTES, Mode, Place, Position,
+    Refusal, Relation, Side, full_positions, raw, scene,
 };
 
 const X: Position = [1.0, 0.0, 0.0];
@@ -311,115 +311,6 @@ fn modes_differ() {
     assert_eq!(raw::desk_pair(long.bytes(), plain.bytes()), Some(65_547));
 }
 
-/// What is close: a corner, an edge and the great circle of a side of a ring of three; a corner and the ray through it of a larger one.
-#[test]
-fn places_are_close() {
-    let t = built(&[X, Y, Z]);
-    assert_eq!(t.place_close([0.48, 0.6, 0.64]), Ok((Place::Inside, Decided::First)));
-    for p in [X, [0.6, 0.8, 0.0], [-0.6, -0.8, 0.0]] {
-        assert_eq!(t.place_close(p), Ok((Place::Outside, Decided::Retest)));
-    }
-    let l = built(&SQUARE);
-    let corners = SQUARE.map(|p| l.place_close(p).unwrap());
-    assert!(corners.iter().all(|(_, by)| *by == Decided::Retest));
-    assert_eq!(corners.map(|(place, _)| place), SQUARE.map(|p| l.place(p).unwrap()));
-    assert_eq!(l.place_close([0.28, 0.0, 0.96]), Ok((Place::Inside, Decided::First)));
-    // The cap excludes it, so that no side is tested; in long mode no cap is asked, and there the edges are clear of it.
-    assert_eq!(l.place_close(W), Ok((Place::Outside, Decided::First)));
-    assert_eq!(built_long(&OCEAN).place_close(BEYOND), Ok((Place::Outside, Decided::First)));
-    assert_eq!(built_long(&SQUARE).place_close(SQUARE[2]), Ok((Place::Inside, Decided::Retest)));
-    for (l, place) in [(&SILENT[..], Place::Mute), (&[], Place::Outside), (&[X, [0.6, 0.8, 0.0], Y], Place::Inside)] {
-        assert_eq!(
-            (built(l).place_close(X), built_long(l).place_close(X)),
-            (Ok((place, Decided::First)), Ok((place, Decided::First)))
-        );
-    }
-    assert_eq!((Decided::First.to_string(), Decided::Retest.to_string()), ("clear".to_string(), "close".to_string()));
-    refused(3, l.place_close(NAN));
-    refused(4, l.place_close(FAR));
-}
-
-/// The mark is added to the answer over bytes and in parts alike, and to no refusal.
-#[test]
-fn marks_over_bytes_and_in_parts() {
-    let l = built(&SQUARE);
-    let (header, rest) = l.bytes().split_at(88);
-    let floats: Vec<f64> = rest[..192].chunks(8).map(|b| f64::from_le_bytes(b.try_into().unwrap())).collect();
-    let in_parts =
-        |p: Position| raw::desk_place_close_f64(header, &floats[..12], &floats[12..], &rest[192..], p[0], p[1], p[2]);
-    let over_bytes = |p: Position| raw::desk_place_close(l.bytes(), &p.map(f64::to_le_bytes).concat());
-    for (p, told) in
-        [(SQUARE[0], 32_768), (SQUARE[2], 32_769), ([0.28, 0.0, 0.96], 1), (W, 0), (NAN, 65_539), (FAR, 65_540)]
-    {
-        assert_eq!((over_bytes(p), in_parts(p)), (Some(told), Some(told)));
-    }
-    assert_eq!(raw::desk_place_close(&l.bytes()[1..], &[0; 24]), Some(65_537));
-    assert_eq!(raw::desk_place(l.bytes(), &SQUARE[2].map(f64::to_le_bytes).concat()), Some(1));
-}
-
-#[test]
-fn arcs_are_close() {
-    let a = Arc::new(X, Y).unwrap();
-    let (across, at_start) = (Arc::new([0.36, 0.48, 0.8], [0.36, 0.48, -0.8]).unwrap(), Arc::new(X, Z).unwrap());
-    for mode in [Mode::Plain, Mode::Long] {
-        for (other, by) in [(&across, Decided::First), (&at_start, Decided::Retest), (&a, Decided::Retest)] {
-            assert_eq!(a.relate_close_in(mode, other), Ok((a.relate_in(mode, other).unwrap(), by)));
-        }
-    }
-    // The first arc excludes the point, which is an end of the second: the second's ends are not tested.
-    let (short, end_on) = (Arc::new(X, [0.8, 0.6, 0.0]).unwrap(), Arc::new([0.6, 0.8, 0.0], Z).unwrap());
-    assert_eq!(short.relate_close_in(Mode::Plain, &end_on), Ok((ArcRelation::Disjoint, Decided::First)));
-    assert_eq!(end_on.relate_close_in(Mode::Plain, &short), Ok((ArcRelation::Disjoint, Decided::Retest)));
-    let bytes = |p: [Position; 3]| p.iter().flatten().flat_map(|c| c.to_le_bytes()).collect::<Vec<u8>>();
-    let (one, other) = (bytes([X, Y, Z]), bytes([X, Z, [0.0, -1.0, 0.0]]));
-    let mut out = [7; 26];
-    for call in [raw::desk_arc_relate_close, raw::desk_arc_relate_long_close] {
-        assert_eq!(call(&one, &other, &mut out[..23]), Some(65_541));
-        assert_eq!(call(&one[..71], &other, &mut out), Some(65_537));
-        assert_eq!(out, [7; 26]);
-        assert_eq!((call(&one, &other, &mut out), &out[24..]), (Some(32_770), &[7; 2][..]));
-        out = [7; 26];
-    }
-}
-
-/// A corner on a side is retested; rings of three, full and empty loops have no cut; a stuck ring is refused as before.
-#[test]
-fn cuttings_are_close() {
-    let flat = [X, [0.6, 0.8, 0.0], Y, Z];
-    for (list, by) in [
-        (&SQUARE[..], Decided::First),
-        (&flat, Decided::Retest),
-        (&[X, Y, Z], Decided::First),
-        (&[], Decided::First),
-        (&flat[..3], Decided::First),
-    ] {
-        let l = built(list);
-        assert_eq!(l.triangulate_close(), Ok((l.triangulate().unwrap(), by)));
-    }
-    refused(8, built(&SILENT).triangulate_close());
-    let mut out = [7; 14];
-    assert_eq!(raw::desk_triangles_close(built(&flat).bytes(), &mut out[..11]), Some(65_541));
-    assert_eq!(raw::desk_triangles_close(&built(&flat).bytes()[1..], &mut out), Some(65_537));
-    assert_eq!(out, [7; 14]);
-    assert_eq!((raw::desk_triangles_close(built(&flat).bytes(), &mut out), &out[12..]), (Some(32_770), &[7; 2][..]));
-}
-
-#[test]
-fn a_place_line_ends_in_the_word() {
-    let t = T;
-    let records = [
-        place(1, [0.48, 0.6, 0.64]),
-        place(1, [0.6, 0.0, 0.8]),
-        area(7, &SILENT),
-        place(7, [-t, t, -t]),
-        area(8, &SQUARE),
-        place(8, SQUARE[2]),
-    ];
-    let text = after_one(&records.concat());
-    let lines: Vec<&str> = text.lines().filter(|l| l.starts_with("place")).collect();
-    assert_eq!(lines, ["place 1 inside clear", "place 1 outside close", "place 7 mute clear", "place 8 inside close"]);
-}
-
 #[test]
 fn how_far() {
     let a = built(&[X, Y, Z]);
@@ -527,7 +418,7 @@ fn a_scene_is_told() {
     assert_eq!(Ending::read(&text).unwrap(), Ending::Ended { records: 5 });
     let text = after_one(&[area(2, &[X, Y, W]), place(1, [0.48, 0.6, 0.64]), pair(2, 1)].concat());
     let lines =
-        ["area 1 3 ring reversed steady 1", "area 2 3 ring kept steady 1", "place 1 inside clear", "pair 2 1 touching"];
+        ["area 1 3 ring reversed steady 1", "area 2 3 ring kept steady 1", "place 1 inside", "pair 2 1 touching"];
     assert_eq!(text, format!("{}\nend 4\n", lines.join("\n")));
     let text = after_one(&[far(1, [0.48, 0.6, 0.64]), area(7, &[]), far(7, Z)].concat());
     assert!(text.ends_with("\nfar 1 3FCF6B55165238B9\narea 7 0 empty kept steady 0\nfar 7 0000000000000000\nend 4\n"));

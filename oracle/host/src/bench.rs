@@ -124,18 +124,6 @@ impl Both {
         )
     }
 
-    /// With the word.
-    fn place_close_in(&self, mode: Mode, p: P) -> Option<u32> {
-        let header = self.header(mode);
-        desk::raw::desk_place_close_f64(header, &self.positions, &self.normals, &self.classes, p[0], p[1], p[2])
-    }
-
-    /// The loop in bytes, as cutting with the word takes it.
-    fn bytes(&self) -> Vec<u8> {
-        let floats = |f: &[f64]| f.iter().flat_map(|x| x.to_le_bytes()).collect::<Vec<u8>>();
-        [&self.header[..], &floats(&self.positions), &floats(&self.normals), &self.classes].concat()
-    }
-
     fn triangles(&self, out: &mut [u16]) -> Option<u32> {
         desk::raw::desk_triangles_f64(&self.header, &self.positions, &self.classes, out)
     }
@@ -175,7 +163,6 @@ fn one_size(star: bool, n: usize) {
         black_box(a.rust.contains_position(black_box(q)));
     });
     line("place inside", name, n, timed(|| a.place(black_box(p))), rust);
-    line("place inside, word", name, n, timed(|| a.place_close_in(Mode::Plain, black_box(p))), rust);
     // Every edge is asked wherever the position lies; outside, an end decides more of them, which is quicker.
     for (what, p) in [("far inside", p), ("far outside", outside())] {
         let (q, mut out) = (nvector(p), [0.0]);
@@ -199,8 +186,6 @@ fn one_size(star: bool, n: usize) {
     let mut out = vec![0; 3 * n];
     let rust = nanos(|| drop(black_box(a.rust.triangulate())));
     line("triangles", name, n, timed(|| a.triangles(&mut out)), rust);
-    let (of, mut out) = (a.bytes(), vec![0; 6 * n]);
-    line("triangles, word", name, n, timed(|| desk::raw::desk_triangles_close(black_box(&of), &mut out)), rust);
 }
 
 /// What is asked how it stands to what.
@@ -212,28 +197,6 @@ fn pairs(star: bool, n: usize) -> [(&'static str, Both, Both); 3] {
         // The caps meet, the loops do not: a cap reaches to the long corners.
         ("pair apart, caps meet", wedge(star, n), apart(star, n)),
     ]
-}
-
-/// Ours without the word and with it, of the same loops and the same answer, in turn: what the word costs.
-fn with_word(star: bool, n: usize) {
-    let name = if star { "star" } else { "convex" };
-    let row = |what: &str, plain: &mut dyn FnMut() -> Option<u32>, word: &mut dyn FnMut() -> Option<u32>| {
-        let told = word().map(|w| w % 32_768);
-        assert_eq!(plain(), told, "{what}: the same answer with the word");
-        let again = |call: &mut dyn FnMut() -> Option<u32>| {
-            black_box(call());
-        };
-        let (without, with) = nanos_in_turn(|| again(plain), || again(word));
-        println!("{what:<22} {name:<7} {n:>4} {without:>12.0} {with:>12.0} {:>10.2}", with / without);
-    };
-    let (a, p) = (Both::of(&shape(star, n, CENTRE, 0.3)), off_centre());
-    for (what, mode) in [("place inside", Mode::Plain), ("place inside, long", Mode::Long)] {
-        row(what, &mut || a.place_in(mode, black_box(p)), &mut || a.place_close_in(mode, black_box(p)));
-    }
-    let (of, mut out, mut other) = (a.bytes(), vec![0; 6 * n], vec![0; 6 * n]);
-    row("triangles", &mut || desk::raw::desk_triangles(black_box(&of), &mut out), &mut || {
-        desk::raw::desk_triangles_close(black_box(&of), &mut other)
-    });
 }
 
 /// Ours in plain mode and in long mode, of the same loops and the same answer: what the second point of two circles costs, and the cap saves.
@@ -317,16 +280,6 @@ pub fn bench() {
             both_modes(star, n);
         }
     }
-    if desk::raw::desk_triangles_close(&[], &mut []).is_none() {
-        println!("The word is not linked here, so not timed.");
-        return;
-    }
-    println!("{:<22} {:<7} {:>4} {:>12} {:>12} {:>10}", "ours", "shape", "n", "without", "with word", "with/without");
-    for star in [false, true] {
-        for n in SIZES {
-            with_word(star, n);
-        }
-    }
 }
 
 const SIZES: [usize; 5] = [4, 16, 64, 256, 512];
@@ -345,7 +298,6 @@ pub fn repeat(who: &str, what: &str, star: bool, n: usize, times: usize) {
             ("ours", "place") => drop(black_box(a.place(black_box(p)))),
             ("ours", "far") => drop(black_box(a.far(black_box(p), &mut distance))),
             ("ours", "pair") => drop(black_box(a.pair(black_box(&b)))),
-            ("ours", "place_close") => drop(black_box(a.place_close_in(Mode::Plain, black_box(p)))),
             ("ours", "place_long") => drop(black_box(a.place_in(Mode::Long, black_box(p)))),
             ("ours", "pair_long") => drop(black_box(a.pair_in(Mode::Long, black_box(&b)))),
             ("ours", "crossing") => drop(black_box(a.pair(black_box(&c)))),
@@ -357,7 +309,7 @@ pub fn repeat(who: &str, what: &str, star: bool, n: usize, times: usize) {
             ("rust", "crossing") => drop(black_box(a.rust.relate(black_box(&c.rust)))),
             ("rust", "triangles") => drop(black_box(a.rust.triangulate())),
             _ => panic!(
-                "ours or rust; build, place, far, pair, crossing or triangles; ours alone: place_close, place_long, pair_long"
+                "ours or rust; build, place, far, pair, crossing or triangles; ours alone: place_long, pair_long"
             ),
         }
     }

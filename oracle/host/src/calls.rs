@@ -9,19 +9,17 @@ pub enum Export {
     Arc, ArcOpposite, ArcSide, ArcContains, ArcIntersection, ArcRelate,
     BuildF64, PlaceF64, PairF64, TrianglesF64, FullPositions, LeafVec, LeafNumber, LeafCase, LeafCap, Scene,
     Radians, Far, ArcFar, FarF64, BuildLong, BuildLongF64, ArcIntersectionLong, ArcRelateLong,
-    PlaceClose, PlaceCloseF64, ArcRelateClose, ArcRelateLongClose, TrianglesClose,
 }
 
 impl Export {
     #[rustfmt::skip]
-    pub const ALL: [Export; 41] = {
+    pub const ALL: [Export; 36] = {
         use Export::*;
         [
             Root, Atan2, Build, Place, Pair, Triangles, Accepts, Convex, Simple, Vertex, OnEdge, Equivalent,
             Arc, ArcOpposite, ArcSide, ArcContains, ArcIntersection, ArcRelate,
             BuildF64, PlaceF64, PairF64, TrianglesF64, FullPositions, LeafVec, LeafNumber, LeafCase, LeafCap, Scene,
             Radians, Far, ArcFar, FarF64, BuildLong, BuildLongF64, ArcIntersectionLong, ArcRelateLong,
-            PlaceClose, PlaceCloseF64, ArcRelateClose, ArcRelateLongClose, TrianglesClose,
         ]
     };
 }
@@ -198,15 +196,6 @@ macro_rules! dispatch {
                 to::desk_arc_intersection_long(a, b, o).value()
             }
             (Export::ArcRelateLong, [Bytes(a), Bytes(b), OutBytes(o)]) => to::desk_arc_relate_long(a, b, o).value(),
-            (Export::PlaceClose, [Bytes(l), Bytes(p)]) => to::desk_place_close(l, p).value(),
-            (Export::PlaceCloseF64, [Bytes(h), Floats(p), Floats(n), Bytes(c), Float(x), Float(y), Float(z)]) => {
-                to::desk_place_close_f64(h, p, n, c, *x, *y, *z).value()
-            }
-            (Export::ArcRelateClose, [Bytes(a), Bytes(b), OutBytes(o)]) => to::desk_arc_relate_close(a, b, o).value(),
-            (Export::ArcRelateLongClose, [Bytes(a), Bytes(b), OutBytes(o)]) => {
-                to::desk_arc_relate_long_close(a, b, o).value()
-            }
-            (Export::TrianglesClose, [Bytes(l), OutBytes(o)]) => to::desk_triangles_close(l, o).value(),
             _ => panic!("{:?} takes other arguments", $call.export),
         };
         value.map(|value| Answer { value, outs: args.iter().filter(|a| a.is_out()).filter_map(Arg::bytes).collect() })

@@ -46,7 +46,7 @@ fn reach(r: &mut Random) -> f64 {
     *r.pick(&[0.01, 0.5, FRAC_PI_2, 3.0])
 }
 
-pub type Two = (Vec<u8>, Vec<u8>);
+type Two = (Vec<u8>, Vec<u8>);
 
 /// The first arc, and one through the point at that share of it.
 fn meeting_at(r: &mut Random, share: impl Fn(&mut Random) -> f64) -> Two {
@@ -241,10 +241,10 @@ fn end_on(r: &mut Random) -> Two {
     if r.chance(3) { (b, a) } else { (a, b) }
 }
 
-pub type Family = (&'static str, bool, fn(&mut Random) -> Two);
+type Family = (&'static str, bool, fn(&mut Random) -> Two);
 
 /// Each with a name, and whether its arcs are as built.
-pub const FAMILIES: [Family; 15] = [
+const FAMILIES: [Family; 15] = [
     ("both long", true, |r| {
         let ((s, d, angle), (t, e, other)) = (long(r), long(r));
         (arc(s, turned(s, d, angle)), arc(t, turned(t, e, other)))
@@ -383,22 +383,6 @@ pub fn signed(r: &mut Random, floats: &mut [u8]) {
     }
 }
 
-/// Some of both damaged, now and then both at once: which is judged first shows.
-pub fn spoil(r: &mut Random, a: &mut Vec<u8>, b: &mut Vec<u8>) {
-    let both = r.chance(60);
-    for one in [a, b] {
-        if r.chance(16) {
-            signed(r, one);
-        }
-        if both || r.chance(60) {
-            *one = damage(r, std::mem::take(one));
-        }
-        if r.chance(90) {
-            two_faults(r, one);
-        }
-    }
-}
-
 /// So many pairs of arcs, each asked where they meet and how they relate; one in four in plain mode, too.
 pub fn arcs(t: &mut Tally, r: &mut Random, n: usize) {
     let mut rows = [Row::default(); FAMILIES.len()];
@@ -409,7 +393,19 @@ pub fn arcs(t: &mut Tally, r: &mut Random, n: usize) {
         if as_built {
             held_to_source(t, &a, &b);
         }
-        spoil(r, &mut a, &mut b);
+        // Both at once: which is judged first shows.
+        let both = r.chance(60);
+        for one in [&mut a, &mut b] {
+            if r.chance(16) {
+                signed(r, one);
+            }
+            if both || r.chance(60) {
+                *one = damage(r, std::mem::take(one));
+            }
+            if r.chance(90) {
+                two_faults(r, one);
+            }
+        }
         count(&mut rows[kind], &a, &b);
         put(t, Export::ArcIntersectionLong, &a, &b, room(r));
         put_relate(t, &a, &b, room(r));

@@ -47,7 +47,7 @@ impl Modes {
 }
 
 /// The same loop in that mode, whatever it was.
-pub fn in_mode(l: &[u8], mode: Mode) -> Vec<u8> {
+fn in_mode(l: &[u8], mode: Mode) -> Vec<u8> {
     let mut b = l.to_vec();
     if b.len() > 3 {
         b[3] = b[3] & !LONG | if mode == Mode::Long { LONG } else { 0 };
@@ -117,7 +117,7 @@ fn wide(r: &mut Random) -> Vec<P> {
     }
 }
 
-pub fn some_list(r: &mut Random) -> Vec<P> {
+fn some_list(r: &mut Random) -> Vec<P> {
     match r.below(8) {
         0 => {
             let n = shapes::length(r).max(3);
@@ -179,7 +179,7 @@ fn alter(r: &mut Random, b: &mut [u8]) {
 }
 
 /// A loop of that mode, one in four not as built, and one in three with marks that nobody knows.
-pub fn handed(r: &mut Random, mode: Mode, list: &[P]) -> Vec<u8> {
+fn handed(r: &mut Random, mode: Mode, list: &[P]) -> Vec<u8> {
     let mut l = built_in(mode, &list[..list.len().min(512)]);
     if r.chance(3) {
         l[3] |= r.bits() as u8 & 0xF0;
@@ -196,7 +196,7 @@ pub fn handed(r: &mut Random, mode: Mode, list: &[P]) -> Vec<u8> {
 
 /// A ring in the plane square to an axis, with normals as nobody builds them: too long, or leaning by next to nothing. An arc from its insides, which are in
 /// that plane but for as little, meets NaNs beside its corners.
-pub fn flat_loop(r: &mut Random, axis: usize, mode: Mode) -> Vec<u8> {
+fn flat_loop(r: &mut Random, axis: usize, mode: Mode) -> Vec<u8> {
     let corners: Vec<[f64; 2]> = (0..4 + r.below(3)).map(|_| flat(r)).collect();
     let mut near_plane = || {
         let mut p = in_plane(axis, flat(r));
@@ -243,7 +243,7 @@ fn some_loop(r: &mut Random) -> Vec<u8> {
 // ---- places
 
 /// A place that the cap or a quarter circle has to do with: beyond the cap, behind the sphere, on the ray through a corner.
-pub fn wide_place(r: &mut Random, l: &[u8]) -> P {
+fn wide_place(r: &mut Random, l: &[u8]) -> P {
     let n = if l.len() >= HEADER { count(l) } else { 0 };
     if n == 0 || l.len() != HEADER + 49 * n {
         return r.position();

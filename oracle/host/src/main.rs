@@ -1,12 +1,7 @@
 //! The host: feeds the port and the Rust the same inputs.
 mod arcs;
 mod bench;
-mod bound;
 mod calls;
-mod close_arcs;
-mod close_costs;
-mod close_cuts;
-mod close_place;
 mod constants;
 mod costs;
 mod cuts;
@@ -41,7 +36,6 @@ host compare GROUP [N] [SEED]    N inputs of a group (or all) to both sides; exi
 host compare turns [N] [SEED]    among them: angles and the directions of steady loops, beside exact angles in whole numbers
 host compare radians [N] [SEED]  among them: N squared chords of each family, bit for bit, and how far they are from the Rust's
 host compare long_arcs [N] [SEED]  and long_build, long_place, long_questions, long_pair among them: the long mode, and where it differs from the plain one
-host compare close_place [N] [SEED]  and close_arcs, close_cuts among them: answers with the word, how many were clear and how many close
 host compare samples [N] [SEED]  among them: the stored scenes, cut and damaged at every byte; N of these spread evenly, or all where N is 0
 host groups                      the groups whose exports are there
 host record FILE [N]             about N recorded answers an export, for the program `test_replay`
@@ -50,12 +44,11 @@ host expected FILE               what the model says of the scenes in FILE (samp
 host serve                       answers the stub's batches by the model (for host mutants)
 host mutants [WORD]              wrong programs in the port's place: each must be noticed
 host long-costs [N] [SEED]       wrong answers of both modes where the right one is known, over N loops of each kind
-host close-costs [N] [SEED]      what clear does not mean: wrong places, clear and close, over N convex loops of each shape
 host bench                       nanoseconds of both and their ratio
 host repeat WHO WHAT SHAPE N TIMES   one call over and over, for a profile (ours or rust; star or convex)";
 
 /// The groups, with the exports that they need one of.
-const GROUPS: [(&str, &[Export]); 25] = [
+const GROUPS: [(&str, &[Export]); 22] = [
     ("root", &[Export::Root]),
     ("atan", &[Export::Atan2]),
     ("leaves", &[Export::LeafVec, Export::LeafNumber, Export::LeafCase, Export::LeafCap]),
@@ -87,9 +80,6 @@ const GROUPS: [(&str, &[Export]); 25] = [
     ("long_place", &[Export::BuildLong]),
     ("long_questions", &[Export::BuildLong]),
     ("long_pair", &[Export::BuildLong]),
-    ("close_place", &[Export::PlaceClose, Export::PlaceCloseF64]),
-    ("close_arcs", &[Export::ArcRelateClose, Export::ArcRelateLongClose]),
-    ("close_cuts", &[Export::TrianglesClose]),
     ("scene", &[Export::Scene]),
     ("samples", &[Export::Scene]),
 ];
@@ -150,9 +140,6 @@ fn feed(group: &str, t: &mut Tally, r: &mut Random, n: usize) {
         "long_place" => long_loops::place(t, r, n),
         "long_questions" => long_loops::questions(t, r, n),
         "long_pair" => long_loops::pair(t, r, n),
-        "close_place" => close_place::place(t, r, n),
-        "close_arcs" => close_arcs::arcs(t, r, n),
-        "close_cuts" => close_cuts::cuts(t, r, n),
         "samples" => samples::samples(t, r, n, &root(), open),
         _ => scenes::scenes(t, r, n, &root()),
     }
@@ -162,8 +149,7 @@ fn record(file: &str, wanted: usize) {
     let mut calls = Vec::new();
     // `test_replay` takes no others.
     let left_out = ["scene", "samples", "leaves", "caps", "turns", "far", "arc_far", "radians"];
-    let later = |name: &str| name.starts_with("long_") || name.starts_with("close_");
-    for (group, _) in GROUPS.iter().filter(|g| !left_out.contains(&g.0) && !later(g.0)) {
+    for (group, _) in GROUPS.iter().filter(|g| !left_out.contains(&g.0) && !g.0.starts_with("long_")) {
         let mut t = Tally::only_filled();
         feed(group, &mut t, &mut Random::new(1), wanted * 4);
         calls.extend(t.drain());
@@ -254,18 +240,6 @@ fn main() {
         }
         ["long-costs", n, seed] => {
             costs::costs(number(n) as usize, number(seed));
-            true
-        }
-        ["close-costs"] => {
-            close_costs::costs(1_000, 1);
-            true
-        }
-        ["close-costs", n] => {
-            close_costs::costs(number(n) as usize, 1);
-            true
-        }
-        ["close-costs", n, seed] => {
-            close_costs::costs(number(n) as usize, number(seed));
             true
         }
         ["bench"] => {

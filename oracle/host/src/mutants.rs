@@ -1,5 +1,5 @@
 //! Puts the host itself to the test: each file of oracle/mutants is a wrong program, made by one edit of a COPY of the
-//! source, of what is noted of it, or of the model, and stands in for the port; the run of its group must find differences.
+//! source or the model, and stands in for the port; the run of its group must find differences.
 //! A file: '#' why, 'group G', 'file F', the lines to take out ('-') and those to put in ('+').
 use std::path::{Path, PathBuf};
 use std::process::Command;
@@ -55,7 +55,7 @@ fn copy(from: &Path, to: &Path) {
 
 const WORKSPACE: &str = r#"[workspace]
 resolver = "2"
-members = ["jord", "noted", "model", "desk", "host"]
+members = ["jord", "model", "desk", "host"]
 [profile.mutant]
 inherits = "release"
 opt-level = 1
@@ -64,7 +64,7 @@ incremental = true
 
 /// Copies what has changed, so that cargo compiles no more than it must.
 fn lay_out(oracle: &Path, work: &Path) {
-    for part in ["jord", "noted", "model", "desk", "host"] {
+    for part in ["jord", "model", "desk", "host"] {
         copy(&oracle.join(part), &work.join(part));
     }
     let manifest = work.join("Cargo.toml");

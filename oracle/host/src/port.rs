@@ -92,15 +92,14 @@ fn probe(export: Export) -> Call {
     let args = match export {
         Root | Radians => vec![Arg::Word(0)],
         Atan2 => vec![Arg::Word(0), Arg::Word(0)],
-        Build | BuildLong | Triangles | TrianglesClose | ArcOpposite | Scene => vec![b(), out()],
-        Place | PlaceClose | Pair | Accepts | Vertex | OnEdge | Equivalent | ArcSide | ArcContains => {
+        Build | BuildLong | Triangles | ArcOpposite | Scene => vec![b(), out()],
+        Place | Pair | Accepts | Vertex | OnEdge | Equivalent | ArcSide | ArcContains => {
             vec![b(), b()]
         }
         Convex | Simple => vec![b()],
-        Arc | ArcIntersection | ArcRelate | ArcIntersectionLong | ArcRelateLong | ArcRelateClose
-        | ArcRelateLongClose | Far | ArcFar => vec![b(), b(), out()],
+        Arc | ArcIntersection | ArcRelate | ArcIntersectionLong | ArcRelateLong | Far | ArcFar => vec![b(), b(), out()],
         BuildF64 | BuildLongF64 => vec![f(), out(), out_floats(), out_floats(), out()],
-        PlaceF64 | PlaceCloseF64 => {
+        PlaceF64 => {
             vec![b(), f(), f(), b(), Arg::Float(0.0), Arg::Float(0.0), Arg::Float(0.0)]
         }
         PairF64 => vec![b(), f(), f(), b(), b(), f(), f(), b()],

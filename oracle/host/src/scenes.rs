@@ -147,26 +147,12 @@ fn note_lines(t: &mut Tally, text: &str) {
         let words: Vec<&str> = line.split(' ').collect();
         match words.as_slice() {
             ["area", _, _, rest @ .., _] => t.note(&format!("area {}", rest.join(" "))),
-            ["place", _, word, decided] => t.note(&format!("place {word} {decided}")),
+            ["place", _, word] => t.note(&format!("place {word}")),
             ["far", _, "0000000000000000"] => t.note("far 0"),
             ["far", ..] => t.note("far above 0"),
             ["pair", _, _, word] => t.note(&format!("pair {word}")),
             _ => {}
         }
-    }
-}
-
-/// The five kinds of a place line.
-const PLACES: [&str; 5] = ["inside clear", "inside close", "outside clear", "outside close", "mute clear"];
-
-/// A mute place is never close; in a long run each of the five must have come.
-fn judge_places(t: &mut Tally, n: usize) {
-    let came = |t: &Tally, place: &str| t.notes.get(&format!("place {place}")).copied().unwrap_or(0);
-    let missing = PLACES.iter().filter(|p| n as u64 >= LONG && came(t, p) == 0).count() as u64;
-    let wrong = missing + came(t, "mute close");
-    if wrong > 0 {
-        println!("DIFFERENCE: {missing} of {PLACES:?} never came in {n} scenes, or a mute place was close");
-        t.differences += wrong;
     }
 }
 
@@ -194,7 +180,6 @@ pub fn scenes(t: &mut Tally, r: &mut Random, n: usize, root: &Path) {
         }
     }
     endings.report(t);
-    judge_places(t, n);
 }
 
 /// A part of `scene_tests`' input: its length, then its bytes.

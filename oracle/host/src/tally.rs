@@ -1,7 +1,6 @@
 //! Puts calls to both sides, compares, and counts.
 use crate::calls::{Answer, Arg, Call, Export, by_model};
 use crate::port::Port;
-use model::close::CLOSE;
 use model::loops::LONG;
 use model::read::HEADER;
 use std::collections::BTreeMap;
@@ -46,25 +45,6 @@ fn count(kinds: &mut BTreeMap<String, u64>, kind: &str) {
 const REFUSED: u64 = 65_536;
 const SIZE_REFUSED: u64 = 1 << 32;
 
-/// What an answer with a mark is counted by: the answer without it, and its word.
-fn marked_kind(name: &str, call: &Call, a: &Answer) -> String {
-    let close = a.value >= u64::from(CLOSE);
-    let value = a.value - if close { u64::from(CLOSE) } else { 0 };
-    let word = if close { "close" } else { "clear" };
-    match call.export {
-        Export::TrianglesClose => format!("{name} {} {word}", cut_kind(call, value)),
-        _ => format!("{name} = {value} {word}"),
-    }
-}
-
-fn cut_kind(call: &Call, count: u64) -> &'static str {
-    match &call.args[0] {
-        Arg::Bytes(h) if h[2] == 1 => "of a full loop",
-        _ if count == 0 => "none",
-        _ => "of a ring",
-    }
-}
-
 fn kind_of(call: &Call, a: &Answer) -> String {
     let name = format!("{:?}", call.export);
     match call.export {
@@ -77,12 +57,19 @@ fn kind_of(call: &Call, a: &Answer) -> String {
         Export::Build | Export::BuildF64 | Export::BuildLong | Export::BuildLongF64 => {
             format!("{name} {}", header_kind(&a.outs[0]))
         }
-        Export::Triangles | Export::TrianglesF64 => format!("{name} {}", cut_kind(call, a.value)),
-        Export::PlaceClose
-        | Export::PlaceCloseF64
-        | Export::ArcRelateClose
-        | Export::ArcRelateLongClose
-        | Export::TrianglesClose => marked_kind(&name, call, a),
+        Export::Triangles | Export::TrianglesF64 => {
+            let full = matches!(&call.args[0], Arg::Bytes(h) if h[2] == 1);
+            format!(
+                "{name} {}",
+                if full {
+                    "of a full loop"
+                } else if a.value == 0 {
+                    "none"
+                } else {
+                    "of a ring"
+                }
+            )
+        }
         _ => format!("{name} = {}", a.value),
     }
 }

@@ -1,7 +1,7 @@
 // Shim. The carried files stand beside this one, byte for byte (oracle/same-source); what they lean on and
 // what was not published with them is in shim/. `probe` modules open private items: they are children of
-// the module that holds an unchanged file by `include!`, so no source line is edited. No attribute of the crate
-// stands here, as oracle/noted holds this file by `include!`, too: Cargo.toml has them.
+// the module that holds an unchanged file by `include!`, so no source line is edited.
+#![allow(dead_code, clippy::all)]
 
 #[macro_use]
 #[path = "shim/measurement.rs"]

@@ -1,8 +1,6 @@
 //! Arcs: 72 bytes, start, end and normal.
-use crate::close::with_mark;
 use crate::leaves::side_code;
 use crate::long::{self, Mode};
-use crate::noting;
 use crate::read::{Judged, answer, floats, position, put, query, refuse_if, vec3};
 use jord::spherical::minor_arc::probe::of_parts;
 use jord::spherical::{MinorArc, MinorArcRelation, Side};
@@ -83,26 +81,22 @@ pub fn desk_arc_intersection_long(a: &[u8], b: &[u8], out: &mut [u8]) -> u32 {
     intersected(Mode::Long, a, b, out)
 }
 
-/// A relation into a lent buffer, and its code.
-fn lay(related: MinorArcRelation, out: &mut [u8]) -> Judged<u32> {
-    let (code, p) = match related {
-        MinorArcRelation::Disjoint => return Ok(0),
-        MinorArcRelation::Intersecting(p) => (1, p),
-        MinorArcRelation::Touching(p) => (2, p),
-        MinorArcRelation::Overlapping(o) => {
-            write_arc(o, out)?;
-            return Ok(3);
-        }
-    };
-    refuse_if(out.len() < 24, 5)?;
-    put(out, 0, p.as_vec3());
-    Ok(code)
-}
-
 fn related(mode: Mode, a: &[u8], b: &[u8], out: &mut [u8]) -> u32 {
     answer((|| {
-        let (a, b) = (read_arc(a)?, read_arc(b)?);
-        lay(long::relation(mode, a, b), out)
+        let a = read_arc(a)?;
+        let b = read_arc(b)?;
+        let (code, p) = match long::relation(mode, a, b) {
+            MinorArcRelation::Disjoint => return Ok(0),
+            MinorArcRelation::Intersecting(p) => (1, p),
+            MinorArcRelation::Touching(p) => (2, p),
+            MinorArcRelation::Overlapping(o) => {
+                write_arc(o, out)?;
+                return Ok(3);
+            }
+        };
+        refuse_if(out.len() < 24, 5)?;
+        put(out, 0, p.as_vec3());
+        Ok(code)
     })())
 }
 
@@ -112,21 +106,4 @@ pub fn desk_arc_relate(a: &[u8], b: &[u8], out: &mut [u8]) -> u32 {
 
 pub fn desk_arc_relate_long(a: &[u8], b: &[u8], out: &mut [u8]) -> u32 {
     related(Mode::Long, a, b, out)
-}
-
-/// The same, marked where a side test was retested (SCOPE 59).
-fn related_close(mode: Mode, a: &[u8], b: &[u8], out: &mut [u8]) -> u32 {
-    answer((|| {
-        let (a, b) = (read_arc(a)?, read_arc(b)?);
-        let told = lay(long::relation(mode, a, b), out)?;
-        Ok(with_mark(told, noting::relation(mode, a, b)))
-    })())
-}
-
-pub fn desk_arc_relate_close(a: &[u8], b: &[u8], out: &mut [u8]) -> u32 {
-    related_close(Mode::Plain, a, b, out)
-}
-
-pub fn desk_arc_relate_long_close(a: &[u8], b: &[u8], out: &mut [u8]) -> u32 {
-    related_close(Mode::Long, a, b, out)
 }

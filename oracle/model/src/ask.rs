@@ -1,8 +1,6 @@
 //! Questions put to a loop handed back: the whole loop is judged, then the query, then the source is asked.
-use crate::close::with_mark;
 use crate::long;
 use crate::loops::{Handed, read_loop, take_loop};
-use crate::noting;
 use crate::read::{Judged, answer, position, query};
 use jord::NVector;
 use jord::spherical::Loop;
@@ -22,34 +20,11 @@ pub fn placed(handed: &Handed, l: &Loop, p: NVector) -> u32 {
     }
 }
 
-/// The same, marked where a side test was retested (SCOPE 60).
-pub fn placed_close(handed: &Handed, l: &Loop, p: NVector) -> u32 {
-    with_mark(placed(handed, l, p), noting::place(handed, l, p))
-}
-
-type Told = fn(&Handed, &Loop, NVector) -> u32;
-
-fn place(told: Told, of: &[u8], p: &[u8]) -> u32 {
+pub fn desk_place(of: &[u8], p: &[u8]) -> u32 {
     answer((|| {
         let handed = read_loop(of)?;
         let l = handed.judge()?;
-        Ok(told(&handed, &l, query(p)?))
-    })())
-}
-
-pub fn desk_place(of: &[u8], p: &[u8]) -> u32 {
-    place(placed, of, p)
-}
-
-pub fn desk_place_close(of: &[u8], p: &[u8]) -> u32 {
-    place(placed_close, of, p)
-}
-
-fn place_f64(told: Told, header: &[u8], positions: &[f64], normals: &[f64], classes: &[u8], p: [f64; 3]) -> u32 {
-    answer((|| {
-        let handed = take_loop(header, positions, Some(normals), classes)?;
-        let l = handed.judge()?;
-        Ok(told(&handed, &l, position(&p)?))
+        Ok(placed(&handed, &l, query(p)?))
     })())
 }
 
@@ -62,19 +37,11 @@ pub fn desk_place_f64(
     y: f64,
     z: f64,
 ) -> u32 {
-    place_f64(placed, header, positions, normals, classes, [x, y, z])
-}
-
-pub fn desk_place_close_f64(
-    header: &[u8],
-    positions: &[f64],
-    normals: &[f64],
-    classes: &[u8],
-    x: f64,
-    y: f64,
-    z: f64,
-) -> u32 {
-    place_f64(placed_close, header, positions, normals, classes, [x, y, z])
+    answer((|| {
+        let handed = take_loop(header, positions, Some(normals), classes)?;
+        let l = handed.judge()?;
+        Ok(placed(&handed, &l, position(&[x, y, z])?))
+    })())
 }
 
 fn asked(of: &[u8], question: impl Fn(&Loop) -> bool) -> u32 {

@@ -1,8 +1,6 @@
 //! Cutting a ring into triangles of ring numbers, and the checker (SCOPE 16, 17, 20). An index is eligible if its class is
 //! convex and no corner of another class is inside or on an edge of (previous, this, next).
-use crate::close::with_mark;
 use crate::loops::{EMPTY, FULL, Ring, read_loop, take_loop};
-use crate::noting;
 use crate::read::{Judged, answer, refuse_if};
 use jord::NVector;
 use jord::spherical::sloop::probe as sloop;
@@ -165,25 +163,14 @@ fn cut_into(ring: &Ring, room: usize) -> Judged<Vec<Triple>> {
     }
 }
 
-/// The triples of a loop in bytes, written to `out`: how many.
-fn cut_bytes(ring: &Ring, out: &mut [u8]) -> Judged<u32> {
-    let triples = cut_into(ring, out.len() / 6)?;
-    for (i, n) in triples.iter().flatten().enumerate() {
-        out[2 * i..2 * i + 2].copy_from_slice(&n.to_le_bytes());
-    }
-    Ok(triples.len() as u32)
-}
-
 pub fn desk_triangles(of: &[u8], out: &mut [u8]) -> u32 {
-    answer(read_loop(of).and_then(|handed| cut_bytes(&handed.judge_ring()?, out)))
-}
-
-/// The same, marked where a side test was retested (SCOPE 61).
-pub fn desk_triangles_close(of: &[u8], out: &mut [u8]) -> u32 {
     answer((|| {
         let ring = read_loop(of)?.judge_ring()?;
-        let told = cut_bytes(&ring, out)?;
-        Ok(with_mark(told, noting::cutting(&ring, told as usize)))
+        let triples = cut_into(&ring, out.len() / 6)?;
+        for (i, n) in triples.iter().flatten().enumerate() {
+            out[2 * i..2 * i + 2].copy_from_slice(&n.to_le_bytes());
+        }
+        Ok(triples.len() as u32)
     })())
 }
 

@@ -1,12 +1,25 @@
 //! The long mode (SCOPE 54 to 57). The source has none, so what follows is written here, over its single steps: the unit vector of the
 //! normals' product, where a point lies on an arc, when two points count as one. Each step takes the mode, and in plain mode the steps
-//! must come to what the source says itself: that is asserted wherever long mode is asked (`held`). This file is compiled over the source
-//! and, in `noting`, over the noted one.
-use super::source::spherical::minor_arc::probe::{Location, location};
-use super::source::spherical::sloop::probe as sloop;
-use super::source::spherical::{Loop, MinorArc, MinorArcRelation, Sphere};
-use super::source::{NVector, Vec3};
-pub use crate::mode::{Mode, mode_of};
+//! must come to what the source says itself: that is asserted wherever long mode is asked (`held`).
+use crate::loops::LONG;
+use jord::spherical::minor_arc::probe::{Location, location};
+use jord::spherical::sloop::probe as sloop;
+use jord::spherical::{Loop, MinorArc, MinorArcRelation, Sphere};
+use jord::{NVector, Vec3};
+
+/// Which of the two points in which two great circles meet may be where two arcs meet.
+#[derive(Clone, Copy, Debug, PartialEq, Eq)]
+pub enum Mode {
+    /// The one on the side of the first arc's start, as in the source.
+    Plain,
+    /// Both.
+    Long,
+}
+
+/// The mode that a header's mark byte says; no other bit has a say in it.
+pub fn mode_of(marks: u8) -> Mode {
+    if marks & LONG != 0 { Mode::Long } else { Mode::Plain }
+}
 
 /// Where two arcs meet.
 #[derive(Clone, Copy, Debug, PartialEq)]
@@ -17,14 +30,10 @@ pub enum Meeting {
     Crossing(Vec3),
 }
 
-/// What two arcs have in one point of both great circles. The second is not asked where the first excludes the point, as in the source.
+/// What two arcs have in one point of both great circles.
 fn meeting_in(a: MinorArc, b: MinorArc, p: Vec3) -> Meeting {
-    let first = location(a, p);
-    if first == Location::Exterior {
-        return Meeting::Apart;
-    }
-    match (first, location(b, p)) {
-        (_, Location::Exterior) => Meeting::Apart,
+    match (location(a, p), location(b, p)) {
+        (Location::Exterior, _) | (_, Location::Exterior) => Meeting::Apart,
         (Location::Interior, Location::Interior) => Meeting::Crossing(p),
         _ => Meeting::Touching(p),
     }
@@ -54,7 +63,7 @@ pub fn meeting(mode: Mode, a: MinorArc, b: MinorArc) -> Meeting {
 }
 
 /// How two arcs relate by these steps; what collinear ones share is left to the source.
-pub fn relation_by_steps(mode: Mode, a: MinorArc, b: MinorArc) -> MinorArcRelation {
+fn relation_by_steps(mode: Mode, a: MinorArc, b: MinorArc) -> MinorArcRelation {
     match meeting(mode, a, b) {
         Meeting::Collinear => a.relate(b),
         Meeting::Apart => MinorArcRelation::Disjoint,
@@ -95,7 +104,7 @@ fn crossings(mode: Mode, arc: MinorArc, edges: &[MinorArc]) -> usize {
 }
 
 /// SCOPE 21: with insides by the crossings, in plain mode within the cap alone; without any there is nothing to cross.
-pub fn contains_by_steps(mode: Mode, l: &Loop, p: NVector) -> bool {
+fn contains_by_steps(mode: Mode, l: &Loop, p: NVector) -> bool {
     let Some((a, b)) = sloop::insides_of(l) else { return l.contains_position(p) };
     if mode == Mode::Plain && !l.bounding_cap().contains_position(p) {
         return false;

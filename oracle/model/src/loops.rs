@@ -1,5 +1,5 @@
 //! A loop handed back: header, positions, normals and classes, judged and made into the source's `Loop`.
-use crate::mode::{Mode, mode_of};
+use crate::long::{Mode, mode_of};
 use crate::read::{HEADER, Judged, MOST, float, floats, positions, refuse_if, vec3};
 use jord::NVector;
 use jord::spherical::minor_arc::probe::of_parts as arc_of_parts;

@@ -1,11 +1,10 @@
-//! A scene as a function from bytes to text (SCOPE 28 to 30, 46 to 48, 52, 62).
+//! A scene as a function from bytes to text (SCOPE 28 to 30, 46 to 48, 52).
 use crate::ask::{INSIDE, MUTE, placed};
 use crate::build::{Built, build};
 use crate::cut::triangles_checked;
 use crate::far::far_of;
 use crate::long::Mode;
 use crate::loops::{EMPTY, FULL, Handed, Ring, read_loop};
-use crate::noting;
 use crate::pair::relate;
 use crate::read::{HEADER, MOST, floats, position, put};
 use jord::NVector;
@@ -200,8 +199,7 @@ impl Scene {
             INSIDE => "inside",
             _ => "outside",
         };
-        let decided = if noting::place(&area.handed, &area.of, p) { "close" } else { "clear" };
-        writeln!(self.text, "place {number} {word} {decided}").unwrap();
+        writeln!(self.text, "place {number} {word}").unwrap();
         Ok(())
     }
 
@@ -347,7 +345,7 @@ mod tests {
         input.extend(pair(1, 2));
         assert_eq!(input.len(), 234);
         let expected = "area 1 3 ring reversed steady 1\narea 2 3 ring kept steady 1\n\
-                        place 1 inside clear\nplace 1 outside close\npair 1 2 touching\nend 5\n";
+                        place 1 inside\nplace 1 outside\npair 1 2 touching\nend 5\n";
         assert_eq!(scene(&input), (expected.to_string(), false));
         assert_eq!(scene(&[]).0, "end 0\n");
     }
@@ -365,26 +363,6 @@ mod tests {
             "far 7 0000000000000000",
         ];
         assert_eq!(text, format!("{}\nend 5\n", lines.join("\n")));
-    }
-
-    /// An edge and a corner are close, an area that has no edges and one that is mute are clear whatever is asked.
-    #[test]
-    fn clear_or_close() {
-        let places = |n: u16, ps: &[P]| ps.iter().flat_map(|p| place(n, *p)).collect::<Vec<u8>>();
-        let t = 0.5773502691896258;
-        let mute = [[-t, t, -t], X, [-t, -t, t], [t, -t, t]];
-        let of = [(1, vec![X, Y, Z]), (2, vec![]), (3, vec![X, [0.6, 0.8, 0.0], Y]), (7, mute.to_vec())];
-        let asked = [X, [0.6, 0.8, 0.0], [0.48, 0.6, 0.64], [-0.48, -0.6, -0.64]];
-        let input: Vec<u8> = of.iter().flat_map(|(n, list)| [area(*n, list), places(*n, &asked)].concat()).collect();
-        let text = scene(&input).0;
-        let lines: Vec<&str> = text.lines().filter(|l| l.starts_with("place")).collect();
-        assert_eq!(
-            lines[..4],
-            ["place 1 outside close", "place 1 outside close", "place 1 inside clear", "place 1 outside clear"]
-        );
-        assert_eq!(lines[4..8], ["place 2 outside clear"; 4]);
-        assert_eq!(lines[8..12], ["place 3 inside clear"; 4]);
-        assert_eq!(lines[12..], ["place 7 mute clear"; 4]);
     }
 
     #[test]

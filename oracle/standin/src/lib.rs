@@ -74,12 +74,6 @@ stand! {
         (lent(a, n), lent_mut(h, hn), lent_mut(p, pn), lent_mut(q, qn), lent_mut(c, cn)) -> u32;
     desk_arc_intersection_long [a: B, n: N, b: B, m: N, o: OB, l: N] (lent(a, n), lent(b, m), lent_mut(o, l)) -> u32;
     desk_arc_relate_long [a: B, n: N, b: B, m: N, o: OB, l: N] (lent(a, n), lent(b, m), lent_mut(o, l)) -> u32;
-    desk_place_close [a: B, n: N, b: B, m: N] (lent(a, n), lent(b, m)) -> u32;
-    desk_place_close_f64 [h: B, hn: N, p: F, pn: N, q: F, qn: N, c: B, cn: N, x: f64, y: f64, z: f64]
-        (lent(h, hn), lent(p, pn), lent(q, qn), lent(c, cn), x, y, z) -> u32;
-    desk_arc_relate_close [a: B, n: N, b: B, m: N, o: OB, l: N] (lent(a, n), lent(b, m), lent_mut(o, l)) -> u32;
-    desk_arc_relate_long_close [a: B, n: N, b: B, m: N, o: OB, l: N] (lent(a, n), lent(b, m), lent_mut(o, l)) -> u32;
-    desk_triangles_close [a: B, n: N, o: OB, m: N] (lent(a, n), lent_mut(o, m)) -> u32;
 }
 
 /// Tells the stand-in from the port.

@@ -1,4 +1,3 @@
--- By the unit vector of the normals' product.
 use borrow.Author.Rules.{rules}
 use Rattle.arc_relations.proofs.relate.Statement.{statement}
 use Rattle.arc_relations.proofs.relate.Tie as tie

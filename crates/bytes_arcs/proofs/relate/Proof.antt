@@ -1,11 +1,51 @@
--- Without its word a relation is told as it was.
+-- `relate`: the refusal of the two arcs' bytes, or what the two arcs as they are read come to, in the mode.
 use borrow.Author.Rules.{rules}
-use Rattle.arcs.proofs.Words.{forgets}
+use Rattle.arcs.specs.Answers.{relate_answer}
+use Rattle.bytes_arcs.specs.Arcs.{arc_at}
+use Rattle.bytes_arcs.proofs.Writes.{gone, went_on, arc_long, next_long}
 use Rattle.bytes_arcs.proofs.relate.Statement.{statement}
 use Rattle.bytes_arcs.proofs.relate.Tie as tie
+
+returns : tie.Need-returns
+returns c =
+    let refused = c.before in
+    let judged = refused.before in
+    let a = judged.before.before.before.before.args in
+    gone (relate_answer a.mode (arc_at a.a.now) (arc_at a.b.now)) judged.next-judged.ensures a.out.now refused.if1.true c.refusal.ensures
+
+arc-at-requires : tie.Need-arc-at-requires
+arc-at-requires c κs =
+    let fine = c.before in
+    let judged = fine.before in
+    let a = judged.before.before.before.before.args in
+    arc_long a.a.now a.b.now 72 judged.next-judged.ensures fine.if1.false
+
+arc-at-requires-2 : tie.Need-arc-at-requires-2
+arc-at-requires-2 c κs =
+    let fine = c.before.before in
+    let judged = fine.before in
+    let a = judged.before.before.before.before.args in
+    next_long a.a.now a.b.now 72 judged.next-judged.ensures fine.if1.false
+
+returns-2 : tie.Need-returns-2
+returns-2 c =
+    let left = c.before.before in
+    let told = left.before in
+    let second = told.before in
+    let first = second.before in
+    let fine = first.before.before in
+    let judged = fine.before in
+    let a = judged.before.before.before.before.args in
+    went_on (relate_answer a.mode (arc_at a.a.now) (arc_at a.b.now)) judged.next-judged.ensures a.out.now fine.if1.false
+    (simp (first.arc-at.ensures, second.arc-at2.ensures) at told.relate.ensures) left.leave-related.ensures
 
 pub relate-spec : {M : Type 1} → statement M
 relate-spec =
     tie.close
-    (tie.spec (λ c κs. search rules) (λ c. search rules)
-    (λ c. simp (forgets) at c.before.before.related.ensures))
+    (tie.spec
+    (λ c κs. search rules) (λ c κs. search rules)
+    returns
+    arc-at-requires
+    arc-at-requires-2
+    (λ c κs. search rules) (λ c κs. search rules) (λ c. search rules)
+    returns-2)

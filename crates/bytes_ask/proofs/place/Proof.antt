@@ -2,31 +2,20 @@
 use native.Mathlib.Omega.{arith}
 use mathlib.Core.Path.{sym, ◌∙◌}
 use Rattle.bytes_loop.proofs.Faults.{header_size_lem}
-use Rattle.bytes_ask.proofs.Calls.{gone_number, went_number, place_told_lem}
+use Rattle.bytes_ask.proofs.Calls.{gone_number, went_number}
 use borrow.Author.Rules.{rules}
 use Rattle.bytes_ask.proofs.place.Statement.{statement}
 use Rattle.bytes_ask.proofs.place.Tie as tie
-
-returns : tie.Need-returns
-returns c = gone_number _ c.before.before.header-fault.ensures c.before.if1.true c.refusal.ensures
-
-header-at-requires : tie.Need-header-at-requires
-header-at-requires c κs = omega (arith, header_size_lem _ (sym c.before.header-fault.ensures ∙ c.if1.false))
-
-returns-2 : tie.Need-returns-2
-returns-2 c =
-    let asked = c.before in
-    let header = asked.before in
-    let fine = header.before in
-    let told = place_told_lem _ _ _ _ _ asked.contains_position.result (simp header.header_at.ensures at asked.contains_position.ensures) in
-    went_number _ fine.before.header-fault.ensures fine.if1.false told c.placed.ensures
 
 pub place-spec : {M : Type 1} → statement M
 place-spec =
     tie.close
     (tie.spec
     (λ c κs. search rules) (λ c κs. search rules)
-    returns
-    header-at-requires
+    (λ c. gone_number _ c.before.before.header-fault.ensures c.before.if1.true c.refusal.ensures)
+    (λ c κs. omega (arith, header_size_lem _ (sym c.before.header-fault.ensures ∙ c.if1.false)))
     (λ c κs. search rules) (λ c κs. search rules)
-    returns-2)
+    (λ c. let asked = c.before in
+    let header = asked.before in
+    let fine = header.before in
+    went_number _ fine.before.header-fault.ensures fine.if1.false (simp header.header_at.ensures at asked.contains_position.ensures) c.placed.ensures))

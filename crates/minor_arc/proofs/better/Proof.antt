@@ -1,4 +1,3 @@
--- The second meeting where it ranks above the first; the mark of either.
 use Rattle.minor_arc.specs.Arcs.{better}
 use borrow.Author.Tests.{lt-ltb, le-ltb}
 use Rattle.minor_arc.proofs.better.Statement.{statement}

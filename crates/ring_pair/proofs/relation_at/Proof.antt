@@ -1,7 +1,7 @@
--- A candidate that the arc passes over and that is not zero is disjoint in the mode; otherwise the edge is read and the relation is its own.
+-- A candidate that misses the arc and is not zero is disjoint in the mode; otherwise the edge is read and the relation is its own.
 use borrow.Author.Rules.{rules}
 use mathlib.Core.Path.{sym, ◌∙◌}
-use Rattle.arc_relations.proofs.Missing.{skipped_disjoint}
+use Rattle.arc_relations.proofs.Missing.{missed_disjoint}
 use Rattle.ring_edges.specs.Edges.{edge_at}
 use Rattle.ring_edges.specs.Blocks.{candidate_at}
 use Rattle.ring_pair.proofs.Clearing.{not_so}
@@ -12,9 +12,9 @@ returns : tie.Need-returns
 unfolding edge_at candidate_at
 returns c =
     let compared = c.before in
-    let passed = compared.before in
-    let asked = passed.before in
-    skipped_disjoint _ _ _ asked.before.before.before.requires.4 (sym asked.skips.ensures ∙ passed.if1.true)
+    let missing = compared.before in
+    let asked = missing.before in
+    missed_disjoint _ _ _ asked.before.before.before.requires.4 (sym asked.misses.ensures ∙ missing.if1.true)
     (sym compared.equals.ensures ∙ not_so compared.equals.result c.if2.true)
 
 relate-at-requires : tie.Need-relate-at-requires

@@ -1,12 +1,11 @@
 -- A position that the cap does not admit is not inside; one that it admits: a given point is inside, and any other by the crossings on the way to it.
 use Rattle.ring_place.specs.Places.{inside_by}
-use Rattle.ring_place.specs.Close.{close_inside_by}
 use borrow.Author.Rules.{rules}
 use Rattle.ring_place.proofs.inside_by.Statement.{statement}
 use Rattle.ring_place.proofs.inside_by.Tie as tie
 
 returns : tie.Need-returns
-unfolding inside_by close_inside_by
+unfolding inside_by
 returns c =
     let second = c.before in
     let one = second.before in
@@ -14,7 +13,7 @@ returns c =
     simp (← capped.before.admits.ensures, capped.if1.true, ← one.equals.ensures, ← second.equals2.ensures, c.if2.true)
 
 returns-2 : tie.Need-returns-2
-unfolding inside_by close_inside_by
+unfolding inside_by
 returns-2 c =
     let arc = c.before in
     let start = arc.before in
@@ -34,7 +33,7 @@ returns-2 c =
     )
 
 returns-3 : tie.Need-returns-3
-unfolding inside_by close_inside_by
+unfolding inside_by
 returns-3 c = simp (← c.before.admits.ensures, c.if1.false)
 
 pub inside-by-spec : {M : Type 1} → statement M

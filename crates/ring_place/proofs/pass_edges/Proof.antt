@@ -5,13 +5,13 @@ use Prim.Native.Nat.{◌-◌, ◌≤◌}
 use mathlib.Core.Path.{refl}
 use Rattle.laws.specs.Loop.{iterate}
 use Rattle.laws.proofs.Loops.{Iterate, iterate_from, iterate_on, iterate_end}
-use Rattle.ring_place.specs.Close.{step}
+use Rattle.ring_place.specs.Places.{pass}
 use Rattle.ring_place.proofs.pass_edges.Statement.{statement}
 use Rattle.ring_place.proofs.pass_edges.Tie as tie
 
 abbrev invariant-loop : tie.invariant-loop
 invariant-loop mode arc positions normals n from to candidates s₀ i₀ s i =
-    Iterate (step mode arc positions normals n) to i s (iterate (step mode arc positions normals n) (to - from) from s₀) × (from ≤ i)
+    Iterate (pass mode arc positions normals n) to i s (iterate (pass mode arc positions normals n) (to - from) from s₀) × (from ≤ i)
 
 abbrev decreases-loop : tie.decreases-loop
 decreases-loop mode arc positions normals n from to candidates s₀ i₀ s i = to - i
@@ -23,8 +23,9 @@ candidate-requires c κs =
 
 loop-again : tie.Need-loop-preserved invariant-loop decreases-loop
 loop-again c =
-    let inv = c.before.before.before.loop.invariant in
-    (iterate_on inv.0 c.pass-edge.ensures (omega arith), omega (arith, inv.1))
+    let met = c.before in
+    let inv = met.before.before.before.loop.invariant in
+    (iterate_on inv.0 (simp (c.passed.ensures, met.point_at.ensures)) (omega arith), omega (arith, inv.1))
 
 pub pass-edges-spec : {M : Type 1} → statement M
 pass-edges-spec =
@@ -34,6 +35,7 @@ pass-edges-spec =
     (λ c. (iterate_from (omega arith) refl, omega arith))
     candidate-requires
     (λ c κs. (omega arith, omega arith, omega arith, omega arith, c.candidate.ensures))
+    (λ c κs. search rules)
     (λ c. search rules)
     (λ c. search rules)
     loop-again

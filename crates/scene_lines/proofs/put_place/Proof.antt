@@ -1,4 +1,4 @@
--- The line of a place is its four parts, each written from where the one before it ended: 6 + 5 + 8 + 7 bytes at most.
+-- The line of a place is its three parts, each written from where the one before it ended: 6 + 5 + 9 bytes at most.
 use native.Mathlib.Omega.{arith}
 use Rattle.scene_lines.specs.Lines.{place_line}
 use Rattle.scene_words.proofs.Writes.{then}
@@ -9,19 +9,17 @@ use Rattle.scene_lines.proofs.put_place.Tie as tie
 returns-line : tie.Need-returns
 unfolding place_line
 returns-line c =
-    let at-decided = c.before.before in
-    let at-answer = at-decided.before.before.before.before in
+    let at-answer = c.before.before in
     let at-number = at-answer.before.before.before.before in
     let at-word = at-number.before.before.before.before in
     let word = at-word.put.ensures in
     let number = at-number.put-number.ensures in
     let answer = at-answer.put-answer.ensures in
-    let decided = at-decided.put-decided.ensures in
-    (then (then (then word number.0) answer.0) decided.0, omega arith)
+    (then (then word number.0) answer.0, omega arith)
 
 pub put-place-spec : {M : Type 1} → statement M
 put-place-spec =
     tie.close
     (tie.spec
-    (λ c. search rules) (λ c κs. search rules) (λ c κs. search rules) (λ c κs. search rules) (λ c κs. search rules) (λ c. search rules)
+    (λ c. search rules) (λ c κs. search rules) (λ c κs. search rules) (λ c κs. search rules) (λ c. search rules)
     returns-line)

@@ -1,4 +1,4 @@
--- The word of an answer is written by its number: 0 outside, 1 inside, else mute; the longest has 8 bytes.
+-- The word of an answer is written by its number: 0 outside, 1 inside, else mute; the longest has 9 bytes.
 use native.Mathlib.Omega.{arith}
 use borrow.Author.Tests.{eq-eqb, ne_eqb}
 use borrow.Author.Rules.{rules}

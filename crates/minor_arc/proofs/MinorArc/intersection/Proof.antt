@@ -1,4 +1,3 @@
--- The point alone of what the arcs meet in.
 use borrow.Author.Rules.{rules}
 use Rattle.minor_arc.proofs.MinorArc.intersection.Statement.{statement}
 use Rattle.minor_arc.proofs.MinorArc.intersection.Tie as tie
@@ -7,4 +6,4 @@ pub intersection-spec : {M : Type 1} → statement M
 intersection-spec =
     tie.close
     (tie.spec (λ c κs. tt) (λ c κs. search rules)
-    (λ c. simp c.hit-at.ensures))
+    (λ c. search rules))

@@ -1,6 +1,13 @@
--- What is located has this location.
+use borrow.Author.Rules.{rules}
+use Rattle.minor_arc.specs.Arcs.{location_of}
 use Rattle.minor_arc.proofs.MinorArc.location.Statement.{statement}
 use Rattle.minor_arc.proofs.MinorArc.location.Tie as tie
 
 pub location-spec : {M : Type 1} → statement M
-location-spec = tie.close (tie.spec (λ c κs. tt) (λ c. simp c.located.ensures))
+unfolding location_of
+location-spec =
+    tie.close
+    (tie.spec (λ c κs. tt) (λ c. search rules)
+    (λ c. simp (← c.before.before.side-of.ensures, c.enum_told.given.1))
+    (λ c κs. tt) (λ c κs. tt)
+    (λ c. simp (c.locate.ensures, c.before.side-of2.ensures, c.before.before.before.side-of.ensures)))

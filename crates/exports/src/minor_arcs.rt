@@ -1,0 +1,63 @@
+// The desk's functions on arcs, over bytes: each is one call.
+ghost use Rattle.std.specs.Prelude.{◌≡◌};
+ghost use Rattle.bytes_loop.specs.Outcome.{outcome};
+ghost use Rattle.minor_arc.specs.declared.Mode.TheVariants.{Plain, Long};
+ghost use Rattle.bytes_arcs.specs.Arcs as Arcs;
+
+use minor_arc::Mode;
+
+#[unsafe(no_mangle)]
+pub extern "C" fn desk_arc(start: &[u8], end: &[u8], out: &mut [u8]) -> u32
+    ensures { outcome result out.new ≡ Arcs.leave (Arcs.arc_told start.now end.now) out.old }
+{
+    bytes_arcs::make(start, end, out)
+}
+
+#[unsafe(no_mangle)]
+pub extern "C" fn desk_arc_opposite(arc: &[u8], out: &mut [u8]) -> u32
+    ensures { outcome result out.new ≡ Arcs.leave (Arcs.opposite_told arc.now) out.old }
+{
+    bytes_arcs::opposite(arc, out)
+}
+
+#[unsafe(no_mangle)]
+pub extern "C" fn desk_arc_side(arc: &[u8], position: &[u8]) -> u32
+    ensures { result ≡ Arcs.number_of (Arcs.side_told arc.now position.now) }
+{
+    bytes_arcs::side(arc, position)
+}
+
+#[unsafe(no_mangle)]
+pub extern "C" fn desk_arc_contains(arc: &[u8], position: &[u8]) -> u32
+    ensures { result ≡ Arcs.number_of (Arcs.contains_told arc.now position.now) }
+{
+    bytes_arcs::contains(arc, position)
+}
+
+#[unsafe(no_mangle)]
+pub extern "C" fn desk_arc_intersection(a: &[u8], b: &[u8], out: &mut [u8]) -> u32
+    ensures { outcome result out.new ≡ Arcs.leave (Arcs.intersection_told Plain a.now b.now) out.old }
+{
+    bytes_arcs::intersection(Mode::Plain, a, b, out)
+}
+
+#[unsafe(no_mangle)]
+pub extern "C" fn desk_arc_relate(a: &[u8], b: &[u8], out: &mut [u8]) -> u32
+    ensures { outcome result out.new ≡ Arcs.leave (Arcs.relate_told Plain a.now b.now) out.old }
+{
+    bytes_arcs::relate(Mode::Plain, a, b, out)
+}
+
+#[unsafe(no_mangle)]
+pub extern "C" fn desk_arc_intersection_long(a: &[u8], b: &[u8], out: &mut [u8]) -> u32
+    ensures { outcome result out.new ≡ Arcs.leave (Arcs.intersection_told Long a.now b.now) out.old }
+{
+    bytes_arcs::intersection(Mode::Long, a, b, out)
+}
+
+#[unsafe(no_mangle)]
+pub extern "C" fn desk_arc_relate_long(a: &[u8], b: &[u8], out: &mut [u8]) -> u32
+    ensures { outcome result out.new ≡ Arcs.leave (Arcs.relate_told Long a.now b.now) out.old }
+{
+    bytes_arcs::relate(Mode::Long, a, b, out)
+}

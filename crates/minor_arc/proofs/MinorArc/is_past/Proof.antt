@@ -1,0 +1,17 @@
+-- The two products are those with the normal and each end.
+use Rattle.minor_arc.proofs.MinorArc.is_past.Statement.{statement}
+use Rattle.minor_arc.proofs.MinorArc.is_past.Tie as tie
+
+returns : tie.Need-returns
+returns c =
+    let at_end = c.before in
+    let end = at_end.before in
+    let at-start = end.before in
+    let start = at-start.before in
+    simp (c.beyond-by.ensures, at_end.dot-prod2.ensures, end.cross-prod2.ensures, at-start.dot-prod.ensures, start.cross-prod.ensures)
+
+pub is-past-spec : {M : Type 1} → statement M
+is-past-spec =
+    tie.close
+    (tie.spec (λ c κs. tt) (λ c κs. tt) (λ c κs. tt) (λ c κs. tt) (λ c κs. tt)
+    returns)

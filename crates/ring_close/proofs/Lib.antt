@@ -1,2 +1,0 @@
-pub mod Ears
-pub mod Goings

@@ -1,0 +1,14 @@
+use Rattle.ring_ears.specs.Ears.{blocks}
+use borrow.Author.Rules.{rules}
+use Rattle.ring_ears.proofs.is_block.Statement.{statement}
+use Rattle.ring_ears.proofs.is_block.Tie as tie
+
+pub is-block-spec : {M : Type 1} → statement M
+unfolding blocks
+is-block-spec =
+    tie.close
+    (tie.spec
+    (λ c κs. search rules)
+    (λ c. simp (← c.before.is_convex.ensures, c.if1.true))
+    (λ c κs. search rules) (λ c κs. search rules)
+    (λ c. rw (c.inside-or-edge.ensures, c.before.corner-at.ensures, ← c.before.before.before.is_convex.ensures, c.before.before.if1.false)))

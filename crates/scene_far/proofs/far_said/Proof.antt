@@ -1,0 +1,12 @@
+-- A squared chord is said by its bits, and a refusal as it is.
+use borrow.Author.Rules.{rules}
+use Rattle.scene_far.proofs.far_said.Statement.{statement}
+use Rattle.scene_far.proofs.far_said.Tie as tie
+
+pub far-said-spec : {M : Type 1} → statement M
+far-said-spec =
+    tie.close
+    (tie.spec
+    (λ c. search rules) (λ c. search rules) (λ c κs. search rules)
+    (λ c. simp c.before.distance.given.1)
+    (λ c. simp (c.before.before.distance2.given.1, c.to-bits.ensures)))

@@ -1,3 +1,0 @@
-pub mod Forgets
-pub mod Clear
-pub mod Cuts

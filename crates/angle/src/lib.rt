@@ -1,11 +1,13 @@
 // Angles in radians, and the arctangent that is the port's own: Euler's series, fixed by its definition over float operations.
 // Total on every float; what comes out at infinities and NaN is what the definition says.
+#![tactic(auto)]
+
 ghost use Rattle.std.specs.Prelude.{◌≡◌};
 ghost use Rattle.angle.specs.Arctan as Atn;
 ghost use Rattle.angle.specs.Angles as Angles;
 
 // An angle in radians. A squared chord is another type, so that neither stands where the other belongs.
-#[derive(Drop)]
+#[derive(Clone, Copy)]
 pub struct Angle(pub f64);
 
 // A quarter, a half and the whole of pi, each the nearest float.

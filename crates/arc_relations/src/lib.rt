@@ -1,4 +1,6 @@
 // How two arcs relate, as spherical/minor_arc.rs has it: by where they meet, and of collinear ones by what they share. Total on every float.
+#![tactic(auto)]
+
 ghost use Rattle.std.specs.Prelude.{◌≡◌};
 ghost use Rattle.vec3.specs.Vec.{stable_unit};
 ghost use Rattle.arc_relations.specs.Relations as Relations;
@@ -7,7 +9,7 @@ use minor_arc::{Meeting, MinorArc, Mode};
 use vec3::Vec3;
 
 // How two arcs relate.
-#[derive(Drop)]
+#[derive(Clone, Copy)]
 pub enum MinorArcRelation {
     Disjoint,
     Intersecting(Vec3),
@@ -16,7 +18,7 @@ pub enum MinorArcRelation {
 }
 
 // At most two different points.
-#[derive(Drop)]
+#[derive(Clone, Copy)]
 pub enum Found {
     None,
     One(Vec3),

@@ -1,5 +1,7 @@
 // The desk's six functions on arcs. They take whatever is handed in: each position and normal is made free of -0.0 and judged, an arc's start, end and
 // normal in this order, the first arc before the second, both before the query. Then they answer.
+#![tactic(auto)]
+
 ghost use Rattle.std.specs.Prelude.{◌≡◌};
 ghost use Rattle.arcs.specs.Answers as Answers;
 
@@ -8,13 +10,13 @@ use base::Side;
 use minor_arc::{MinorArc, Mode};
 use vec3::{Point, Vec3};
 
-#[derive(Drop)]
+#[derive(Clone, Copy)]
 pub enum ArcMade {
     Refused(u8),
     Arc(MinorArc),
 }
 
-#[derive(Drop)]
+#[derive(Clone, Copy)]
 pub enum Sided {
     Refused(u8),
     Collinear,
@@ -22,21 +24,21 @@ pub enum Sided {
     Right,
 }
 
-#[derive(Drop)]
+#[derive(Clone, Copy)]
 pub enum Contained {
     Refused(u8),
     No,
     Yes,
 }
 
-#[derive(Drop)]
+#[derive(Clone, Copy)]
 pub enum Met {
     Refused(u8),
     Nowhere,
     At(Vec3),
 }
 
-#[derive(Drop)]
+#[derive(Clone, Copy)]
 pub enum ArcRelated {
     Refused(u8),
     Disjoint,

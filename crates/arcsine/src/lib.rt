@@ -1,4 +1,6 @@
 // The arcsine, our own, out of the arctangent and the root, and the radians of a squared chord. Total on every float.
+#![tactic(auto)]
+
 ghost use Rattle.std.specs.Prelude.{◌≡◌};
 ghost use Rattle.arcsine.specs.Arcsine as Asn;
 

@@ -1,5 +1,7 @@
 // The arctangent in three goes, for many angles at once: the number that the series takes, the series, and the angle out of its value.
 // Together they are `Angle::between` (proofs/Between). Total on every float; `requires` for indexes and lengths alone.
+#![tactic(auto)]
+
 ghost use Rattle.std.specs.Prelude.{◌≡◌, cond, ◌≤◌, length};
 ghost use Rattle.std.specs.Float.Ieee.{lt};
 ghost use Rattle.arctangents.specs.Arctangents as Atn;

@@ -1,4 +1,6 @@
 // The side of a position against a great circle, and the turning angle, as spherical/base.rs has them. Total on every float.
+#![tactic(auto)]
+
 ghost use Rattle.std.specs.Prelude.{◌≡◌};
 ghost use Rattle.base.specs.Sides.{sign_of, retest_of, side_of, settles_right, settles_left, surely_right};
 ghost use Rattle.base.specs.Turns.{sine_of, turning_angle};
@@ -9,7 +11,7 @@ use vec3::Vec3;
 // Up to this size a triple product is not trusted.
 const TRIAGE_SIDE_EPS: f64 = 10.0 * numbers::EPSILON;
 
-#[derive(Drop)]
+#[derive(Clone, Copy)]
 pub enum Side {
     Left,
     Right,

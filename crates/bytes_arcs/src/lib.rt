@@ -1,4 +1,6 @@
 // The desk's functions on arcs, over bytes, for the exports. A position is 24 bytes, an arc 72: start, end, normal.
+#![tactic(auto)]
+
 ghost use Rattle.std.specs.Prelude.{◌≡◌, [], ◌∷◌, ◌≤◌, pos, length};
 ghost use Rattle.arcs.specs.Answers as Answers;
 ghost use Rattle.bytes_loop.specs.Outcome.{outcome};

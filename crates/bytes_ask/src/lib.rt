@@ -1,4 +1,6 @@
 // Questions put to loops in bytes. The floats are copied into work arrays, the classes are read where they stand.
+#![tactic(auto)]
+
 ghost use Rattle.std.specs.Prelude.{◌≡◌, length};
 ghost use Rattle.loop_ask.specs.Answers as An;
 ghost use Rattle.bytes_ask.specs.Ask as As;
@@ -9,7 +11,7 @@ use loop_ask::{Answered, Placed};
 use loop_header::Header;
 use vec3::Vec3;
 
-#[derive(Drop)]
+#[derive(Clone, Copy)]
 pub enum Question {
     Place,
     Vertex,

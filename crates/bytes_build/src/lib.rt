@@ -1,4 +1,6 @@
 // Building a loop out of positions in bytes, into bytes; and out of floats, with its header alone in bytes. A number is answered: a refusal is 65,536 plus its own.
+#![tactic(auto)]
+
 ghost use Rattle.std.specs.Prelude.{◌≡◌, ◌*◌, ◌≤◌, length};
 ghost use Rattle.loop_build.specs.Build as B;
 ghost use Rattle.bytes_loop.specs.Outcome.{outcome};

@@ -1,4 +1,6 @@
 // The checker of lists of triangles in bytes, against a loop in bytes. Positions and numbers are copied into work arrays, the classes are read where they stand.
+#![tactic(auto)]
+
 ghost use Rattle.std.specs.Prelude.{◌≡◌, ◌*◌, ◌≤◌, length};
 ghost use Rattle.wire.specs.Wire.{numbers_at};
 ghost use Rattle.bytes_loop.specs.Layout as F;

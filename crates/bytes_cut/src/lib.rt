@@ -1,4 +1,6 @@
 // Triangles of loops in bytes, and the positions behind a full loop's. The positions are copied into a work array, the classes are read where they stand.
+#![tactic(auto)]
+
 ghost use Rattle.std.specs.Prelude.{◌≡◌, ◌*◌, ◌≤◌, length};
 ghost use Rattle.bytes_loop.specs.Layout as F;
 ghost use Rattle.bytes_loop.specs.Outcome.{outcome};

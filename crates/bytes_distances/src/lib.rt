@@ -1,5 +1,7 @@
 // How far a position is from an arc and from a loop's border, over bytes, for the exports. What is told is found by value first, then one call writes it: a squared
 // chord as 8 bytes, or as one float.
+#![tactic(auto)]
+
 ghost use Rattle.std.specs.Prelude.{◌≡◌, length};
 ghost use Rattle.loop_distances.specs.Distances.{chord, told_distance};
 ghost use Rattle.bytes_loop.specs.Outcome.{outcome};

@@ -1,4 +1,6 @@
 // A loop in bytes: 88 of header, then its positions, its normals and its classes. Read from lent bytes and written into them here, and nowhere else.
+#![tactic(auto)]
+
 ghost use Rattle.std.specs.Prelude.{◌≡◌, [], ◌∷◌, ◌+◌, ◌*◌, ◌≤◌, ◌<◌, length};
 ghost use Rattle.std.proofs.lemmas.List.Edits.{sets};
 ghost use Rattle.bytes_loop.specs.Outcome.{refusal_of};

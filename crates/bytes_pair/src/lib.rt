@@ -1,4 +1,6 @@
 // Two loops in bytes beside each other. The floats of both are copied into work arrays, the classes are read where they stand.
+#![tactic(auto)]
+
 ghost use Rattle.std.specs.Prelude.{◌≡◌, length};
 ghost use Rattle.bytes_ask.specs.Ask as As;
 ghost use Rattle.bytes_loop.specs.Layout as F;
@@ -9,7 +11,7 @@ use bytes_loop::refusal;
 use loop_header::Header;
 use loop_relate::Related;
 
-#[derive(Drop)]
+#[derive(Clone, Copy)]
 pub enum Comparison {
     Relation,
     Equivalence,

@@ -1,4 +1,6 @@
 // The run of a scene over bytes, for the exports: its text goes to the front of a lent slice.
+#![tactic(auto)]
+
 ghost use Rattle.std.specs.Prelude.{◌≡◌, ◌≤◌, length};
 ghost use Rattle.bytes_loop.specs.Outcome.{outcome};
 ghost use Rattle.bytes_scene.specs.Scene as Sc;

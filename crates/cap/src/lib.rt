@@ -1,4 +1,6 @@
 // Spherical caps: the two tests that the desk uses, and the bounding cap of a list, as spherical/cap.rs and sloop.rs have them. Total on every float.
+#![tactic(auto)]
+
 ghost use Rattle.std.specs.Prelude.{◌≡◌, ◌*◌, ◌≤◌, length};
 ghost use Rattle.cap.specs.Caps as Caps;
 
@@ -11,7 +13,7 @@ const GROWTH: ChordLength = ChordLength(0.0000000000000000030461741978670858);
 // The least squared chord that the Rust takes for a quarter circle, found by running it over neighbouring doubles (4000000000000000).
 const QUARTER_CIRCLE: f64 = 2.0;
 
-#[derive(Drop)]
+#[derive(Clone, Copy)]
 pub struct Cap {
     pub centre: Vec3,
     pub radius: ChordLength,

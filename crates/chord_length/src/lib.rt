@@ -1,4 +1,6 @@
 // Squared chords, at most 4; -1 marks the empty cap. As spherical/chord_length.rs has them. Total on every float.
+#![tactic(auto)]
+
 ghost use Rattle.std.specs.Prelude.{◌≡◌};
 ghost use Rattle.chord_length.specs.Chords as Chords;
 
@@ -6,7 +8,7 @@ use angle::Angle;
 use vec3::Vec3;
 
 // A squared chord. Radians are another type, so that neither stands where the other belongs.
-#[derive(Drop)]
+#[derive(Clone, Copy)]
 pub struct ChordLength(pub f64);
 
 impl ChordLength {

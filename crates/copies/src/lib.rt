@@ -1,4 +1,6 @@
 // Lists copied to the front of others that are as long or longer.
+#![tactic(auto)]
+
 ghost use Rattle.std.specs.Prelude.{◌≡◌, ◌++◌, ◌≤◌, length, drop};
 
 pub fn copy_classes(classes: &[u8], to: &mut [u8])

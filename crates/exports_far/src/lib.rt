@@ -1,4 +1,6 @@
 // How far, as C-style exports: each is one call. A squared chord is 8 bytes, one float, or its bits; a refusal is 65,536 plus its number.
+#![tactic(auto)]
+
 ghost use Rattle.std.specs.Prelude.{◌≡◌};
 ghost use Rattle.std.specs.Float.{binary64};
 ghost use Rattle.std.specs.Float.Ieee.{of_bits, to_bits};

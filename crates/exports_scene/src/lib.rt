@@ -1,5 +1,7 @@
 // The run of a scene as a C-style export over bytes: one call, in a crate of its own, for beside the exports on loops it would check in more than 2 GB. A refusal is
 // 2^32 plus its number.
+#![tactic(auto)]
+
 ghost use Rattle.std.specs.Prelude.{◌≡◌};
 ghost use Rattle.bytes_loop.specs.Outcome.{outcome};
 ghost use Rattle.bytes_scene.specs.Scene as Sc;

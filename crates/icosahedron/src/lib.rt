@@ -1,4 +1,6 @@
 // The icosahedron that stands for the full loop: 12 positions, recorded bit for bit from the Rust (docs/CONSTANTS.md), and 20 triples over them.
+#![tactic(auto)]
+
 ghost use Rattle.std.specs.Prelude.{◌≡◌, ◌++◌, ◌≤◌, ◌<◌, length, drop};
 ghost use Rattle.icosahedron.specs.Table as T;
 

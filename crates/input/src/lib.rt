@@ -1,4 +1,6 @@
 // Standard input for every program: all of it, or the word that it could not be read.
+#![tactic(auto)]
+
 ghost use Rattle.std.specs.Prelude.{◌-◌, ◌≤◌, ◌≡◌, length};
 ghost use Rattle.libc.specs.Io.{Moved};
 ghost use Rattle.input.specs.Reading as R;
@@ -6,7 +8,7 @@ ghost use Rattle.input.specs.Reading as R;
 use libc::STDIN_FILENO;
 
 // What reading came to: so many bytes, or a failure, which is not the end of the input.
-#[derive(Drop)]
+#[derive(Clone, Copy)]
 pub enum Input {
     Read(usize),
     Failed,

@@ -1,5 +1,7 @@
 // The one judge of what is handed in: positions and vectors, alone and in lists. A refusal is a number here, 0 for none;
 // the public functions make their answers of it.
+#![tactic(auto)]
+
 ghost use Rattle.std.specs.Prelude.{◌≡◌, ◌*◌, ◌≤◌, length};
 ghost use Rattle.laws.specs.Loop as Loop;
 ghost use Rattle.judge.specs.Judge.{finite_vec, fault_of, vector_fault, first_refused, positions_fault, vectors_fault};

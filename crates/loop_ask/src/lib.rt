@@ -1,5 +1,7 @@
 // Asking a loop: whether a place lies in it, at a corner or on an edge, whether it is convex or simple, and whether another is the same. Each judges what it is
 // handed, then answers.
+#![tactic(auto)]
+
 ghost use Rattle.std.specs.Prelude.{◌≡◌, ◌*◌, ◌≤◌, length};
 ghost use Rattle.loop_ask.specs.Answers as An;
 ghost use Rattle.loop_ask.specs.Places as P;
@@ -9,7 +11,7 @@ use cap::Cap;
 use loop_header::{Header, State};
 use vec3::{Insides, Vec3};
 
-#[derive(Drop)]
+#[derive(Clone, Copy)]
 pub enum Placed {
     Refused(u8),
     Outside,
@@ -17,7 +19,7 @@ pub enum Placed {
     Mute,
 }
 
-#[derive(Drop)]
+#[derive(Clone, Copy)]
 pub enum Answered {
     Refused(u8),
     No,

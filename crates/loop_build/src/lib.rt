@@ -1,4 +1,6 @@
 // Building a loop: from a lent list of positions to a header by value and a ring in lent slices, or a refusal that changes nothing.
+#![tactic(auto)]
+
 ghost use Rattle.std.specs.Prelude.{◌≡◌, ◌*◌, ◌≤◌, length};
 ghost use Rattle.ring_cut.specs.Cut as C;
 ghost use Rattle.loop_build.specs.Build as B;
@@ -8,7 +10,7 @@ use loop_header::{Header, State};
 use minor_arc::Mode;
 use vec3::Insides;
 
-#[derive(Drop)]
+#[derive(Clone, Copy)]
 pub enum Built {
     Refused(u8),
     Loop(Header),

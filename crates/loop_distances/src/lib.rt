@@ -1,5 +1,7 @@
 // How far a position is from an arc and from a loop's border, as a squared chord. The two public functions judge what they are handed, then answer. Those below
 // them are total on every float; `requires` for sizes, and of a ring that its corners and the query are positions that the judge lets pass.
+#![tactic(auto)]
+
 ghost use Rattle.std.specs.Prelude.{◌≡◌, ◌+◌, ◌*◌, ◌≤◌, ◌<◌, length};
 ghost use Rattle.sure_sides.specs.Sure as S;
 ghost use Rattle.loop_distances.specs.Blocks as B;
@@ -15,7 +17,7 @@ const SLACK: f64 = 0.000000000014551915228366851806640625;
 
 const WIDE: f64 = 0.00000011920928955078125;
 
-#[derive(Drop)]
+#[derive(Clone, Copy)]
 pub enum Distance {
     Refused(u8),
     Chord(ChordLength),
@@ -117,7 +119,7 @@ fn counted(settled: bool, k: usize) -> usize
 }
 
 // What a pass over a block leaves: the least over the settled edges, and how many are listed.
-#[derive(Drop)]
+#[derive(Clone, Copy)]
 pub struct Settled {
     pub least: ChordLength,
     pub count: usize,

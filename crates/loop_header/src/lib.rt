@@ -1,4 +1,6 @@
 // A loop's header, and the one judge of a loop that is handed back. A refusal is a number here, 0 for none.
+#![tactic(auto)]
+
 ghost use Rattle.std.specs.Prelude.{◌≡◌, ◌*◌, ◌≤◌, length};
 ghost use Rattle.loop_header.specs.Loops as L;
 
@@ -6,7 +8,7 @@ use cap::Cap;
 use minor_arc::Mode;
 use vec3::Insides;
 
-#[derive(Drop)]
+#[derive(Clone, Copy)]
 pub enum State {
     Empty,
     Full,
@@ -15,7 +17,7 @@ pub enum State {
 
 // What a loop is beside its slices. Mute is not stored: it is a ring above three corners whose insides are absent, so nothing can contradict it. The mode is
 // the one that the loop was built in: its arcs meet others by it. The four small fields stand together: a header so takes fewer moves to copy.
-#[derive(Drop)]
+#[derive(Clone, Copy)]
 pub struct Header {
     pub count: usize,
     pub cap: Cap,

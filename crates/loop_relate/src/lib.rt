@@ -1,4 +1,6 @@
 // How two loops stand to each other, by the stages of the source in its order. Where the source stops at `unreachable!`, refusal 7 is given.
+#![tactic(auto)]
+
 ghost use Rattle.std.specs.Prelude.{◌≡◌, ◌*◌, ◌≤◌, length};
 ghost use Rattle.loop_ask.specs.Answers as An;
 ghost use Rattle.loop_ask.specs.Places as P;
@@ -11,7 +13,7 @@ use loop_header::{Header, State};
 use minor_arc::Mode;
 use ring_pair::Probe;
 
-#[derive(Drop)]
+#[derive(Clone, Copy)]
 pub enum Related {
     Refused(u8),
     Disjoint,

@@ -1,4 +1,6 @@
 // The triangles of a loop as ring numbers, and the checker of such lists. Both read a loop's count, state, positions and classes alone.
+#![tactic(auto)]
+
 ghost use Rattle.std.specs.Prelude.{◌≡◌, ◌-◌, ◌*◌};
 ghost use Rattle.ring_cut.specs.Cut.{Ring};
 ghost use Rattle.loop_ask.specs.Answers as An;
@@ -7,7 +9,7 @@ ghost use Rattle.loop_triangles.specs.Triangles as Tri;
 use loop_ask::Answered;
 use loop_header::{Header, State};
 
-#[derive(Drop)]
+#[derive(Clone, Copy)]
 pub enum Cut {
     Refused(u8),
     Triangles(usize),

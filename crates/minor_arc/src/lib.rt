@@ -1,5 +1,7 @@
 // Minor arcs, as spherical/minor_arc.rs has them: two positions and a normal, by value. Total on every float: a NaN fails each comparison.
 // The functions of crate `arcs` judge what they are handed; those here do not, and are what loops call.
+#![tactic(auto)]
+
 ghost use Rattle.std.specs.Prelude.{◌≡◌};
 ghost use Rattle.vec3.specs.Vec.{stable_unit};
 ghost use Rattle.signs.specs.Mirrors.{Stored};
@@ -8,7 +10,7 @@ ghost use Rattle.minor_arc.specs.Arcs as Arcs;
 use base::Side;
 use vec3::{Point, Vec3};
 
-#[derive(Drop)]
+#[derive(Clone, Copy)]
 pub struct MinorArc {
     pub start: Vec3,
     pub end: Vec3,
@@ -16,7 +18,7 @@ pub struct MinorArc {
 }
 
 // Where a point of an arc's great circle lies.
-#[derive(Drop)]
+#[derive(Clone, Copy)]
 pub enum Location {
     Endpoint,
     Interior,
@@ -24,7 +26,7 @@ pub enum Location {
 }
 
 // Where two arcs meet. Collinear ones, whose great circles are one, are left to crate `arc_relations`.
-#[derive(Drop)]
+#[derive(Clone, Copy)]
 pub enum Meeting {
     Apart,
     Collinear,
@@ -33,7 +35,7 @@ pub enum Meeting {
 }
 
 // Which of the two points are tried in which two great circles meet: the one on the side of the first arc's start alone, as in the source, or both.
-#[derive(Drop)]
+#[derive(Clone, Copy)]
 pub enum Mode {
     Plain,
     Long,

@@ -1,4 +1,6 @@
 // Comparisons of floats within 2^-52, inclusive, as numbers.rs has them. Total on every float: a NaN fails each test.
+#![tactic(auto)]
+
 ghost use Rattle.std.specs.Prelude.{◌≡◌};
 ghost use Rattle.numbers.specs.Near as N;
 ghost use Rattle.numbers.specs.F64.{zero};

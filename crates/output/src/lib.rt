@@ -1,5 +1,7 @@
 // Standard output and standard error for every program: a text that could not be written is not passed over. No contract can say what a call of the C
 // library wrote, and these answer nothing, so they have none.
+#![tactic(auto)]
+
 use libc::{STDERR_FILENO, STDOUT_FILENO};
 
 // Says a sentence on standard error, where nothing is left to do if that fails too.

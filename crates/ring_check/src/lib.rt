@@ -1,4 +1,6 @@
 // The checker of triangle lists: the ring is cut along the list, ear by ear. Total on every float, and on any list of numbers.
+#![tactic(auto)]
+
 ghost use Rattle.std.specs.Prelude.{◌≡◌, ◌+◌, ◌-◌, ◌*◌, ◌≤◌, ◌<◌, length, get_or, drop};
 ghost use Rattle.ring_ears.specs.Ears.{Lent};
 ghost use Rattle.ring_cut.specs.Cut.{Ring, Work, whole_ring};

@@ -1,5 +1,7 @@
 // What a ring is made of, from an opened list of positions and its edges (crate `ring_turns`): the corners, normals and classes in clockwise order.
 // Total on every float; `requires` for indexes and lengths alone.
+#![tactic(auto)]
+
 ghost use Rattle.std.specs.Prelude.{◌≡◌, ◌++◌, ◌-◌, ◌*◌, ◌%◌, ◌≤◌, ◌<◌, length, drop};
 ghost use Rattle.ring_turns.specs.Turns.{edge_normals};
 ghost use Rattle.ring_corners.specs.Corners as R;

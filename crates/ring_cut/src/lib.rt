@@ -1,5 +1,7 @@
 // Cutting a ring ear by ear into triangles of ring numbers, as sloop.rs has it. Work arrays of 512 entries, of 16 for a small ring, hold the ring numbers
 // and the classes of the ring left, and the numbers of the corners that are not convex. Total on every float.
+#![tactic(auto)]
+
 ghost use Rattle.std.specs.Prelude.{◌≡◌, ◌+◌, ◌-◌, ◌*◌, ◌≤◌, ◌<◌, length};
 ghost use Rattle.std.proofs.lemmas.List.Edits.{sets};
 ghost use Rattle.ring_theory.specs.Ring.{numbers, ear_of};

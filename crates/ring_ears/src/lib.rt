@@ -1,5 +1,7 @@
 // Ears of a ring: eligible ears and one cut, as sloop.rs has them. A ring is lent as its positions and classes (0 convex, 1 reflex, 2 both);
 // what is left of it is a list of ring numbers, and the classes by ring number. Total on every float.
+#![tactic(auto)]
+
 ghost use Rattle.std.specs.Prelude.{◌≡◌, ◌++◌, ◌+◌, ◌-◌, ◌*◌, ◌≤◌, ◌<◌, length, get_or, drop};
 ghost use Rattle.ring_theory.specs.Ring.{without};
 ghost use Rattle.ring_ears.specs.Ears.{Lent, corner, convex, triangle_at, Indexed, blocks, blocked, ear, class_of, turn_of, reclassify, reclassify_both, cut_in};
@@ -9,7 +11,7 @@ use base::Side;
 use vec3::Vec3;
 
 // The corners of the triangle at an index: the one before, its own, the one after.
-#[derive(Drop)]
+#[derive(Clone, Copy)]
 pub struct Triangle {
     pub previous: Vec3,
     pub this: Vec3,

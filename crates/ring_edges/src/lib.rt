@@ -1,5 +1,7 @@
 // The edges of one ring, over lent lists of n corners: positions and normals in threes. And the candidates of an arc's crossings with a block of them.
 // Total on every float; `requires` for indexes and lengths alone.
+#![tactic(auto)]
+
 ghost use Rattle.std.specs.Prelude.{◌≡◌, ◌+◌, ◌-◌, ◌*◌, ◌≤◌, ◌<◌, length};
 ghost use Rattle.ring_edges.specs.Blocks as B;
 ghost use Rattle.ring_edges.specs.Edges as E;

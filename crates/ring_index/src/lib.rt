@@ -1,4 +1,6 @@
 // Indexes counted round a ring of n, and the blocks in which a ring is walked. By comparison: a division costs more than the rest of a step.
+#![tactic(auto)]
+
 ghost use Rattle.std.specs.Prelude.{◌≡◌, ◌+◌, ◌-◌, ◌%◌, ◌≤◌, ◌<◌};
 ghost use Rattle.ring_index.specs.Blocks.{block_end};
 

@@ -1,4 +1,6 @@
 // Two positions inside a ring, found while it is cut, as sloop.rs has it. Work arrays as in `ring_cut`. Total on every float.
+#![tactic(auto)]
+
 ghost use Rattle.std.specs.Prelude.{◌≡◌, ◌≤◌, ◌<◌, length};
 ghost use Rattle.ring_ears.specs.Ears.{Lent, Indexed, triangle_at};
 ghost use Rattle.vec3.specs.declared.Point as Point;
@@ -8,7 +10,7 @@ ghost use Rattle.ring_insides.specs.Insides.{with_mean, is_both, mean_of, means_
 use vec3::{Insides, Point, Vec3};
 
 // The means found so far.
-#[derive(Drop)]
+#[derive(Clone, Copy)]
 enum Found {
     Nothing,
     One(Vec3),

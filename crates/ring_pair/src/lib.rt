@@ -1,5 +1,7 @@
 // Two rings beside each other: how their edges stand, and a point of one that is on no edge of the other. Over lent lists of n and of m corners.
 // Total on every float; `requires` for indexes and lengths alone.
+#![tactic(auto)]
+
 ghost use Rattle.std.specs.Prelude.{◌≡◌, false, ◌+◌, ◌-◌, ◌*◌, ◌≤◌, ◌<◌, length};
 ghost use Rattle.arc_relations.specs.Relations.{relation_of};
 ghost use Rattle.ring_edges.specs.Blocks as B;
@@ -12,7 +14,7 @@ use minor_arc::{MinorArc, Mode};
 use vec3::{Point, Vec3};
 
 // How the edges of two rings stand.
-#[derive(Drop)]
+#[derive(Clone, Copy)]
 pub enum Contact {
     Apart,
     Touched,
@@ -20,7 +22,7 @@ pub enum Contact {
 }
 
 // A point of a ring that is on no edge of another, if there is one.
-#[derive(Drop)]
+#[derive(Clone, Copy)]
 pub enum Probe {
     Nowhere,
     Corner(Vec3),

@@ -1,5 +1,7 @@
 // Whether a place is inside a ring, over lent lists of n corners: positions and normals in threes.
 // Total on every float; `requires` for indexes and lengths alone.
+#![tactic(auto)]
+
 ghost use Rattle.std.specs.Prelude.{◌≡◌, ◌+◌, ◌-◌, ◌*◌, ◌≤◌, ◌<◌, length};
 ghost use Rattle.laws.specs.Loop.{iterate};
 ghost use Rattle.minor_arc.specs.Arcs.{meeting_of, meeting_point};
@@ -12,7 +14,7 @@ use minor_arc::{MinorArc, Mode};
 use vec3::{Point, Vec3};
 
 // An arc's crossings so far: whether their number is even, where it met the first edge, and where it met the edge before.
-#[derive(Drop)]
+#[derive(Clone, Copy)]
 pub struct Crossings {
     pub even: bool,
     pub first: Vec3,

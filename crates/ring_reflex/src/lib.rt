@@ -1,5 +1,7 @@
 // The corners of what is left of a ring that are not convex, as a list: no other can block an ear. The lowest eligible ear by that list, and a cut that
 // keeps it. Total on every float.
+#![tactic(auto)]
+
 ghost use Rattle.std.specs.Prelude.{◌≡◌, ◌+◌, ◌*◌, ◌≤◌, ◌<◌, true, length, get_or, take};
 ghost use Rattle.ring_theory.specs.Ring.{Below, without};
 ghost use Rattle.ring_ears.specs.Ears.{Lent, Indexed, convex, ear, cut_in};

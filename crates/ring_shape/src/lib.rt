@@ -1,5 +1,7 @@
 // The shape of a ring: convex, simple, and the same as another. Over lent lists of n corners: positions and normals in threes, and classes.
 // Total on every float; `requires` for indexes and lengths alone.
+#![tactic(auto)]
+
 ghost use Rattle.std.specs.Prelude.{◌≡◌, ◌+◌, ◌*◌, ◌%◌, ◌≤◌, ◌<◌, length};
 ghost use Rattle.ring_shape.specs.Shapes as S;
 

@@ -1,4 +1,6 @@
 // Whether a position is inside a triangle or on an edge of it, as sloop.rs has it. Total on every float.
+#![tactic(auto)]
+
 ghost use Rattle.std.specs.Prelude.{◌≡◌, ◌≤◌};
 ghost use Rattle.ring_triangle.specs.Inside.{is_right, collinears, fits, edge_side, fits_edges, is_corner, inside_or_edge};
 

@@ -1,5 +1,7 @@
 // The edges of an opened list of positions: their normals, and the sum of the turns from each to the next, block by block.
 // Total on every float; `requires` for indexes and lengths alone.
+#![tactic(auto)]
+
 ghost use Rattle.std.specs.Prelude.{◌≡◌, ◌+◌, ◌-◌, ◌*◌, ◌≤◌, ◌<◌, length};
 ghost use Rattle.vec3.specs.Vec.{raw_at};
 ghost use Rattle.laws.specs.Loop.{iterate};

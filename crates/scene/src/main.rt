@@ -1,4 +1,6 @@
 // The scene program: reads standard input, at most one byte more than a scene may have, and writes what it comes to. A failed read is no scene.
+#![tactic(auto)]
+
 use input::Input;
 
 fn main() {

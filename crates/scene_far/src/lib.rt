@@ -1,4 +1,6 @@
 // How far a position is from the border of an area in the store, and what an area says of one position: where it lies or how far it is, as a scene's line.
+#![tactic(auto)]
+
 ghost use Rattle.std.specs.Prelude.{◌≡◌};
 ghost use Rattle.loop_ask.specs.Answers.{toldPlaced};
 ghost use Rattle.loop_distances.specs.Distances.{told_distance};
@@ -12,7 +14,7 @@ use scene_store::Area;
 use vec3::Vec3;
 
 // What an area says of a position: a refusal, or the line.
-#[derive(Drop)]
+#[derive(Clone, Copy)]
 pub enum Said {
     Refused(u8),
     Line(Line),

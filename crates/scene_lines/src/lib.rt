@@ -1,4 +1,6 @@
 // The lines of a scene, written into a lent slice of bytes from an offset on. Each function answers the offset after its text.
+#![tactic(auto)]
+
 ghost use Rattle.std.specs.Prelude.{◌≡◌, ◌+◌, ◌≤◌, length};
 ghost use Rattle.loop_header.specs.Loops.{is_absent, mute};
 ghost use Rattle.scene_words.specs.Words.{Wrote};
@@ -9,7 +11,7 @@ use vec3::Insides;
 
 // What a line says. An answer and a relation go by their numbers, a squared chord by its bits; the last line of a scene is `End`, `Refused` (the number, the offsets of the record and of
 // the field) or `RefusedAt`, which adds the index of a position in its list.
-#[derive(Drop)]
+#[derive(Clone, Copy)]
 pub enum Line {
     Area(usize, Header, usize),
     Place(usize, u8),

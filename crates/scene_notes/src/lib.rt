@@ -1,4 +1,6 @@
 // What a scene knows between two records, the table of the areas met among it, and whether a record's area may come in and its numbers were met.
+#![tactic(auto)]
+
 ghost use Rattle.std.specs.Prelude.{◌≡◌, ◌+◌, ◌*◌, ◌≤◌, ◌<◌, length, get_or};
 ghost use Rattle.scene_store.specs.Store as St;
 ghost use Rattle.scene_notes.specs.Noted as N;
@@ -8,7 +10,7 @@ use scene_records::Fault;
 use scene_store::Area;
 
 // What is known between two records, beside the store.
-#[derive(Drop)]
+#[derive(Clone, Copy)]
 pub struct Notes {
     pub at: usize,
     pub records: usize,
@@ -19,7 +21,7 @@ pub struct Notes {
 }
 
 // Whether a record may be taken, or its fault and that field's offset.
-#[derive(Drop)]
+#[derive(Clone, Copy)]
 pub enum Judged {
     Fine,
     Bad(Fault, usize),

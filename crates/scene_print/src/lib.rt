@@ -1,4 +1,6 @@
 // What the scene program prints for an input, on standard output.
+#![tactic(auto)]
+
 ghost use Rattle.std.specs.Prelude.{◌≡◌, length};
 ghost use Rattle.scene_run.specs.Run.{scene_text};
 

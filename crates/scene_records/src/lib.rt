@@ -1,11 +1,13 @@
 // The records of a scene, read out of its bytes: each is a u32 body length, a u16 kind and the body, all little-endian. What a record is refused for, at
 // which of its fields, and which of its positions is refused first.
+#![tactic(auto)]
+
 ghost use Rattle.std.specs.Prelude.{◌≡◌, ◌+◌, ◌*◌, ◌≤◌, ◌<◌, length};
 ghost use Rattle.judge.specs.Judge.{first_refused};
 ghost use Rattle.scene_records.specs.Records as R;
 
 // What a record is refused for, in the order of the numbers 20 to 27.
-#[derive(Drop)]
+#[derive(Clone, Copy)]
 pub enum Fault {
     CutShort,
     UnknownKind,
@@ -35,7 +37,7 @@ pub fn fault_number(f: Fault) -> u8
 
 // What stands at an offset: a record, with its area numbers, how many positions an area has, and of a place whether it is asked how far it is; the end; or a
 // fault and its field's offset.
-#[derive(Drop)]
+#[derive(Clone, Copy)]
 pub enum Read {
     End,
     Bad(Fault, usize),

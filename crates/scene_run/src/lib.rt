@@ -1,4 +1,6 @@
 // A scene: its records taken one after the other, each answer written as a line.
+#![tactic(auto)]
+
 ghost use Rattle.std.specs.Prelude.{◌≡◌, ◌≤◌, length};
 ghost use Rattle.scene_words.specs.Words.{Wrote};
 ghost use Rattle.scene_run.specs.Run as Sc;

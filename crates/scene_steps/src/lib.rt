@@ -1,4 +1,6 @@
 // A scene's records taken one by one: what each comes to.
+#![tactic(auto)]
+
 ghost use Rattle.std.specs.Prelude.{◌≡◌, ◌+◌, ◌*◌, ◌≤◌, ◌<◌, length};
 ghost use Rattle.loop_relate.specs.Relations.{told_related};
 ghost use Rattle.scene_store.specs.Store as St;
@@ -16,7 +18,7 @@ use scene_store::Area;
 
 // What a record comes to: there is none; its fault and that field's offset; a call's own refusal, of a list of positions with the index of the first that
 // is refused; or its line.
-#[derive(Drop)]
+#[derive(Clone, Copy)]
 pub enum Report {
     End,
     Bad(Fault, usize),
@@ -26,7 +28,7 @@ pub enum Report {
 }
 
 // The same with the notes after it, which stand beside it since they hold an array.
-#[derive(Drop)]
+#[derive(Clone, Copy)]
 pub struct Stepped {
     pub report: Report,
     pub next: Notes,

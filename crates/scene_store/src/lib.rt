@@ -1,4 +1,6 @@
 // Areas in one lent store: each ring goes into its still unused rest, and each question is asked of an area's own part.
+#![tactic(auto)]
+
 ghost use Rattle.std.specs.Prelude.{◌≡◌, ◌+◌, ◌*◌, ◌≤◌, length};
 ghost use Rattle.loop_build.specs.Build as B;
 ghost use Rattle.loop_ask.specs.Answers.{toldPlaced};
@@ -16,7 +18,7 @@ use minor_arc::Mode;
 use vec3::Vec3;
 
 // An area that was met: its number, where its ring starts in the store, and its header.
-#[derive(Drop)]
+#[derive(Clone, Copy)]
 pub struct Area {
     pub number: usize,
     pub start: usize,

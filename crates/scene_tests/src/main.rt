@@ -1,5 +1,7 @@
 // The scene program's stored tests, many in one run: standard input holds how many there are, and for each a title and a scene,
 // both with a u32 length before them (samples/make.py writes them). Prints each title, and what the scene program prints for its scene.
+#![tactic(auto)]
+
 ghost use Rattle.std.specs.Prelude.{◌≡◌, ◌≤◌, length, take};
 
 fn read_number() -> usize {

@@ -1,5 +1,7 @@
 // The words and numbers of a scene's lines, written into a lent slice of bytes from an offset on. Each function answers the offset after its text; and the room
 // that a scene's text is written into.
+#![tactic(auto)]
+
 ghost use Rattle.std.specs.Prelude.{◌≡◌, [], ◌∷◌, ◌+◌, ◌≤◌, ◌<◌, length};
 ghost use Rattle.scene_words.specs.Words as W;
 

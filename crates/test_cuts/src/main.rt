@@ -1,5 +1,7 @@
 // Cuts the sample rings of standard input, checks each list of triangles, and prints them with the two insides. The stored output is what the Rust says.
 // A ring is a u16 count of corners, 24 bytes a position and a byte a class, little-endian; `host rings` writes the samples and the stored output.
+#![tactic(auto)]
+
 ghost use Rattle.std.specs.Prelude.{◌≡◌, ◌-◌, ◌*◌, ◌≤◌, length};
 ghost use Rattle.ring_cut.specs.Cut.{Ring};
 ghost use Rattle.test_cuts.specs.Bytes.{Bytes};

@@ -1,4 +1,6 @@
 // Probes for runs beside the Rust: each leaf by its number, over raw floats, as C-style exports of a library that is not shipped.
+#![tactic(auto)]
+
 ghost use Rattle.std.specs.Prelude.{◌≡◌};
 ghost use Rattle.bytes_loop.specs.Outcome.{outcome};
 ghost use Rattle.test_probes.specs.Leaves as Leaves;

@@ -1,5 +1,7 @@
 // Replays recorded answers of the Rust: each record of the file that the first argument names is put to the port's exports, and how many agree is printed.
 // `host record` writes the file; its format stands at the top of oracle/host/src/record.rs.
+#![tactic(auto)]
+
 ghost use Rattle.std.specs.Prelude.{◌+◌, ◌*◌, ◌≤◌, ◌<◌, length};
 
 use exports::{floats, loops, minor_arcs};

@@ -1,12 +1,14 @@
 // Vectors of three floats by value, as vec3.rs has them: sums run left to right, every operation rounds once, and each component is stored as 0.0 + v.
 // Positions (n-vectors) are such vectors. Every function is total on every float.
+#![tactic(auto)]
+
 ghost use Rattle.std.specs.Prelude.{◌≡◌, ◌+◌, ◌*◌, ◌<◌, length};
 ghost use Rattle.std.proofs.lemmas.List.Edits.{sets};
 ghost use Rattle.vec3.specs.Vec.{vec, cleared, same, dot, product, cross, plus, minus, opposite, times, unit_vec, unit, cross_unit, stable_cross, stable_unit, axis_for, orthogonal, orthogonal_to, antipodes, mean3, pos_at, raw_at, coords};
 ghost use Rattle.vec3.specs.Points.{triangle_mean, midpoint};
 ghost use Rattle.root.specs.Root.{root_of};
 
-#[derive(Drop)]
+#[derive(Clone, Copy)]
 pub struct Vec3 {
     pub x: f64,
     pub y: f64,
@@ -14,14 +16,14 @@ pub struct Vec3 {
 }
 
 // A point, or none.
-#[derive(Drop)]
+#[derive(Clone, Copy)]
 pub enum Point {
     Absent,
     At(Vec3),
 }
 
 // Two positions inside a ring, or none.
-#[derive(Drop)]
+#[derive(Clone, Copy)]
 pub enum Insides {
     Absent,
     Two(Vec3, Vec3),

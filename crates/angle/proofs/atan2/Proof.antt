@@ -15,13 +15,13 @@ returns c =
       c.signed.ensures,
       turn.turned.ensures,
       quarter.quadrant.ensures,
-      across.size2.ensures,
+      across.size-2.ensures,
       up.size.ensures,
-      left.minus2.ensures,
+      left.minus-2.ensures,
       left.before.minus.ensures,
     )
 
-pub atan2-spec : {M : Type 1} → statement M
-atan2-spec =
+pub atan2_spec : {M : Type 1} → statement M
+atan2_spec =
     tie.close
     (tie.spec (λ c κs. tt) (λ c κs. tt) (λ c κs. tt) (λ c κs. tt) (λ c κs. tt) (λ c κs. tt) (λ c κs. tt) returns)

@@ -2,5 +2,5 @@
 use Rattle.angle.proofs.signed.Statement.{statement}
 use Rattle.angle.proofs.signed.Tie as tie
 
-pub signed-spec : {M : Type 1} → statement M
-signed-spec = tie.close (tie.spec (λ c. simp c.if1.true) (λ c. simp c.if1.false))
+pub signed_spec : {M : Type 1} → statement M
+signed_spec = tie.close (tie.spec (λ c. simp c.if-down.true) (λ c. simp c.if-down.false))

@@ -3,7 +3,7 @@ use Rattle.angle.specs.Arctan.{size}
 use Rattle.angle.proofs.size.Statement.{statement}
 use Rattle.angle.proofs.size.Tie as tie
 
-pub size-spec : {M : Type 1} → statement M
+pub size_spec : {M : Type 1} → statement M
 unfolding size
-size-spec =
-    tie.close (tie.spec (λ c κs. tt) (λ c. simp (← c.before.minus.ensures, c.if1.true)) (λ c. simp (← c.before.minus.ensures, c.if1.false)))
+size_spec =
+    tie.close (tie.spec (λ c κs. tt) (λ c. simp (← c.before.minus.ensures, c.if-minus.true)) (λ c. simp (← c.before.minus.ensures, c.if-minus.false)))

@@ -4,6 +4,6 @@ use Rattle.angle.specs.Arctan.{sum_of}
 use Rattle.angle.proofs.sum.Statement.{statement}
 use Rattle.angle.proofs.sum.Tie as tie
 
-pub sum-spec : {M : Type 1} → statement M
+pub sum_spec : {M : Type 1} → statement M
 unfolding sum_of
-sum-spec = tie.close (tie.spec (λ c. refl))
+sum_spec = tie.close (tie.spec (λ c. refl))

@@ -12,8 +12,8 @@ new_spec =
     (λ c κs. tt)
     (λ c. let q = c.before in
     let k = q.before.before.before in
-    judged_hit _ (simp (q.before.fault2.ensures, q.before.before.fault.ensures, k.clear2.ensures, k.before.clear.ensures) at q.first.ensures) c.if1.true)
+    judged_hit _ (simp (q.before.fault-2.ensures, q.before.before.fault.ensures, k.clear-e.ensures, k.before.clear-s.ensures) at q.first-f.ensures) c.if-f-ne0.true)
     (λ c κs. tt)
     (λ c. let q = c.before.before in
     let k = q.before.before.before in
-    judged_none _ (simp (q.before.fault2.ensures, q.before.before.fault.ensures, k.clear2.ensures, k.before.clear.ensures) at q.first.ensures) c.before.if1.false (simp (c.new.ensures, k.clear2.ensures, k.before.clear.ensures))))
+    judged_none _ (simp (q.before.fault-2.ensures, q.before.before.fault.ensures, k.clear-e.ensures, k.before.clear-s.ensures) at q.first-f.ensures) c.before.if-f-ne0.false (simp (c.new.ensures, k.clear-e.ensures, k.before.clear-s.ensures))))

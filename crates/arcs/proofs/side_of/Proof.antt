@@ -3,14 +3,14 @@ use Rattle.arcs.specs.Answers.{sideOfTold}
 use Rattle.arcs.proofs.side_of.Statement.{statement}
 use Rattle.arcs.proofs.side_of.Tie as tie
 
-pub side-of-spec : {M : Type 1} → statement M
+pub side_of_spec : {M : Type 1} → statement M
 unfolding sideOfTold
-side-of-spec =
+side_of_spec =
     tie.close
     (tie.spec
     (λ c κs. tt) (λ c κs. tt) (λ c κs. tt)
     (λ c. let q = c.before in
-    judged_hit _ (simp (q.before.before.clear-arc.ensures, q.before.clear.ensures) at q.query-fault.ensures) c.if1.true)
+    judged_hit _ (simp (q.before.before.clear_arc-arc.ensures, q.before.clear-q.ensures) at q.query_fault-f.ensures) c.if-f-ne0.true)
     (λ c κs. tt) (λ c κs. tt)
     (λ c. let q = c.before.before.before in
-    judged_none _ (simp (q.before.before.clear-arc.ensures, q.before.clear.ensures) at q.query-fault.ensures) c.before.before.if1.false (simp (c.before.side-of.ensures, q.before.before.clear-arc.ensures, q.before.clear.ensures) at c.tell-side.ensures)))
+    judged_none _ (simp (q.before.before.clear_arc-arc.ensures, q.before.clear-q.ensures) at q.query_fault-f.ensures) c.before.before.if-f-ne0.false (simp (c.before.side_of.ensures, q.before.before.clear_arc-arc.ensures, q.before.clear-q.ensures) at c.tell_side.ensures)))

@@ -2,9 +2,9 @@ use borrow.Author.Rules.{rules}
 use Rattle.arcs.proofs.tell_point.Statement.{statement}
 use Rattle.arcs.proofs.tell_point.Tie as tie
 
-pub tell-point-spec : {M : Type 1} → statement M
-tell-point-spec =
+pub tell_point_spec : {M : Type 1} → statement M
+tell_point_spec =
     tie.close
     (tie.spec
     (λ c. search rules) (λ c. search rules) (λ c. search rules)
-    (λ c. simp c.before.p.given.1))
+    (λ c. simp c.before.p-1.requires.1))

@@ -2,11 +2,11 @@ use borrow.Author.Rules.{rules}
 use Rattle.arcs.proofs.tell_relation.Statement.{statement}
 use Rattle.arcs.proofs.tell_relation.Tie as tie
 
-pub tell-relation-spec : {M : Type 1} → statement M
-tell-relation-spec =
+pub tell_relation_spec : {M : Type 1} → statement M
+tell_relation_spec =
     tie.close
     (tie.spec
     (λ c. search rules) (λ c. search rules) (λ c. search rules) (λ c. search rules) (λ c. search rules)
-    (λ c. simp c.before.r.given.1)
-    (λ c. simp c.before.r2.given.1)
-    (λ c. simp c.before.r3.given.1))
+    (λ c. simp c.before.r-1.requires.1)
+    (λ c. simp c.before.r-in-Touching-1.requires.1)
+    (λ c. simp c.before.r-in-Overlapping-1.requires.1))

@@ -3,9 +3,9 @@ use Rattle.arcsine.specs.Arcsine.{arcsine}
 use Rattle.arcsine.proofs.arcsine.Statement.{statement}
 use Rattle.arcsine.proofs.arcsine.Tie as tie
 
-pub arcsine-spec : {M : Type 1} → statement M
+pub arcsine_spec : {M : Type 1} → statement M
 unfolding arcsine
-arcsine-spec =
+arcsine_spec =
     tie.close
     (tie.spec
     (λ c κs. tt) (λ c κs. tt)

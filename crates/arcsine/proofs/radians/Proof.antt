@@ -10,11 +10,11 @@ minus_one_is : neg one ≡ minus_one
 unfolding neg of_bits
 minus_one_is = refl
 
-pub radians-spec : {M : Type 1} → statement M
+pub radians_spec : {M : Type 1} → statement M
 unfolding radians
-radians-spec =
+radians_spec =
     tie.close
     (tie.spec
-    (λ c. simp c.if1.true minus_one_is)
+    (λ c. simp c.if-c.true minus_one_is)
     (λ c κs. tt) (λ c κs. tt)
-    (λ c. simp (c.before.before.if1.false, c.arcsine.ensures, c.before.root.ensures.same)))
+    (λ c. simp (c.before.before.if-c.false, c.arcsine.ensures, c.before.root.ensures.same)))

@@ -12,14 +12,14 @@ returns c =
     simp (
       c.signed.ensures,
       turn.turned.ensures,
-      left.minus2.ensures,
+      left.minus-2.ensures,
       down.minus.ensures,
-      quarter.quadrant-by.ensures,
-      across.size2.ensures,
+      quarter.quadrant_by-r.ensures,
+      across.size-2.ensures,
       across.before.size.ensures,
     )
 
-pub angle-by-spec : {M : Type 1} → statement M
-angle-by-spec =
+pub angle_by_spec : {M : Type 1} → statement M
+angle_by_spec =
     tie.close
     (tie.spec (λ c κs. tt) (λ c κs. tt) (λ c κs. tt) (λ c κs. tt) (λ c κs. tt) (λ c κs. tt) (λ c κs. tt) returns)

@@ -10,14 +10,14 @@ use Prim.Native.Nat.{◌-◌}
 use Rattle.arctangents.proofs.write_acutes.Statement.{statement}
 use Rattle.arctangents.proofs.write_acutes.Tie as tie
 
-abbrev invariant-loop : tie.invariant-loop
+abbrev invariant-loop : tie.invariant-loop-j
 invariant-loop ts k out₀ j₀ out j = Fill 1 (λ i. acute (get_or ts i nan) ∷ []) k j out₀ out × (length out₀ ≡ k)
 
-abbrev decreases-loop : tie.decreases-loop
+abbrev decreases-loop : tie.decreases-loop-j
 decreases-loop ts k out₀ j₀ out j = k - j
 
-pub write-acutes-spec : {M : Type 1} → statement M
-write-acutes-spec =
+pub write_acutes_spec : {M : Type 1} → statement M
+write_acutes_spec =
     tie.close
     (tie.spec
     invariant-loop decreases-loop
@@ -29,7 +29,7 @@ write-acutes-spec =
     (λ c. search rules)
     (λ c. search rules)
     (λ c. search rules)
-    (λ c. let l = c.before.before.before.loop in
+    (λ c. let l = c.before.before.before.loop-j in
     (fill_on_one l.invariant.0 refl (simp c.acute.ensures) (omega arith), l.invariant.1))
     (λ c. search rules)
-    (λ c. fill_all_one c.before.loop.invariant.0 (omega arith) c.before.loop.invariant.1))
+    (λ c. fill_all_one c.before.loop-j.invariant.0 (omega arith) c.before.loop-j.invariant.1))

@@ -6,22 +6,22 @@ use borrow.Author.Rules.{rules}
 use Rattle.bytes_arcs.proofs.contains.Statement.{statement}
 use Rattle.bytes_arcs.proofs.contains.Tie as tie
 
-pub contains-spec : {M : Type 1} → statement M
-contains-spec =
+pub contains_spec : {M : Type 1} → statement M
+contains_spec =
     tie.close
     (tie.spec
     (λ c κs. search rules) (λ c κs. search rules)
     (λ c. let j = c.before.before in
     let a = j.before.before.before.args in
-    gone_number (containsAnswer (arc_at a.arc.now) (vec_of a.position.now 0)) j.next-judged.ensures c.before.if1.true c.refusal.ensures)
+    gone_number (containsAnswer (arc_at a.arc.now) (vec_of a.position.now 0)) j.next_judged-f.ensures c.before.if-f-ne0.true c.refusal.ensures)
     (λ c κs. let j = c.before in
     let a = j.before.before.before.args in
-    arc_long a.arc.now a.position.now 24 j.next-judged.ensures c.if1.false)
+    arc_long a.arc.now a.position.now 24 j.next_judged-f.ensures c.if-f-ne0.false)
     (λ c κs. let j = c.before.before in
     let a = j.before.before.before.args in
-    next_long a.arc.now a.position.now 24 j.next-judged.ensures c.before.if1.false)
+    next_long a.arc.now a.position.now 24 j.next_judged-f.ensures c.before.if-f-ne0.false)
     (λ c κs. search rules) (λ c κs. search rules)
     (λ c. let v = c.before.before in
     let j = v.before.before.before in
     let a = j.before.before.before.args in
-    went_on_number (containsAnswer (arc_at a.arc.now) (vec_of a.position.now 0)) j.next-judged.ensures v.before.before.if1.false (simp (v.before.arc-at.ensures, v.vec-at.ensures) at c.before.contains_position.ensures) c.held.ensures))
+    went_on_number (containsAnswer (arc_at a.arc.now) (vec_of a.position.now 0)) j.next_judged-f.ensures v.before.before.if-f-ne0.false (simp (v.before.arc_at.ensures, v.vec_at.ensures) at c.before.contains_position.ensures) c.held.ensures))

@@ -3,12 +3,12 @@ use borrow.Author.Rules.{rules}
 use Rattle.bytes_arcs.proofs.leave_made.Statement.{statement}
 use Rattle.bytes_arcs.proofs.leave_made.Tie as tie
 
-pub leave-made-spec : {M : Type 1} → statement M
+pub leave_made_spec : {M : Type 1} → statement M
 unfolding leave
-leave-made-spec =
+leave_made_spec =
     tie.close
     (tie.spec
     (λ c. search rules) (λ c κs. search rules) (λ c. search rules) (λ c κs. search rules)
-    (λ c. simp (c.refusal.ensures, c.before.before.m.given.1))
+    (λ c. simp (c.refusal.ensures, c.before.before.m-1.requires.1))
     (λ c. search rules)
-    (λ c. let l = c.before.before in simp l.before.before.before.m2.given.1 l.leave-arc.ensures))
+    (λ c. let l = c.before.before in simp l.before.before.before.m-in-Arc-1.requires.1 l.leave_arc.ensures))

@@ -6,24 +6,24 @@ use borrow.Author.Rules.{rules}
 use Rattle.bytes_ask.proofs.answer.Statement.{statement}
 use Rattle.bytes_ask.proofs.answer.Tie as tie
 
-pub answer-spec : {M : Type 1} → statement M
-answer-spec =
+pub answer_spec : {M : Type 1} → statement M
+answer_spec =
     tie.close
     (tie.spec
     (λ c κs. search rules) (λ c κs. search rules)
     (λ c. let asked = c.before.before in
     let a = asked.before.before.before.before.before.args in
-    no_position a.h a.positions.now a.normals.now a.classes.now a.q a.position.now asked.needs-position.ensures origin
-    (not_true asked.needs-position.result c.before.if1.true) c.query.ensures)
+    no_position a.h a.positions.now a.normals.now a.classes.now a.q a.position.now asked.needs_position.ensures origin
+    (not_true asked.needs_position.result c.before.if-not-needs_position.true) c.query.ensures)
     (λ c κs. search rules)
     (λ c. let long = c.before in
     let asked = long.before.before in
     let a = asked.before.before.before.before.before.args in
-    wrong_position a.h a.positions.now a.normals.now a.classes.now a.q a.position.now asked.needs-position.ensures
-    (not_false asked.needs-position.result long.before.if1.false) long.if2.true c.no-query.ensures)
+    wrong_position a.h a.positions.now a.normals.now a.classes.now a.q a.position.now asked.needs_position.ensures
+    (not_false asked.needs_position.result long.before.if-not-needs_position.false) long.if-position-ne-VECTOR.true c.no_query.ensures)
     (λ c κs. search rules) (λ c κs. search rules)
     (λ c. let long = c.before.before in
     let asked = long.before.before in
     let a = asked.before.before.before.before.before.args in
-    at_position a.h a.positions.now a.normals.now a.classes.now a.q a.position.now asked.needs-position.ensures
-    (not_false asked.needs-position.result long.before.if1.false) long.if2.false (simp c.before.vec-at.ensures at c.query2.ensures)))
+    at_position a.h a.positions.now a.normals.now a.classes.now a.q a.position.now asked.needs_position.ensures
+    (not_false asked.needs_position.result long.before.if-not-needs_position.false) long.if-position-ne-VECTOR.false (simp c.before.vec_at.ensures at c.query-2.ensures)))

@@ -2,10 +2,10 @@ use borrow.Author.Rules.{rules}
 use Rattle.bytes_ask.proofs.answered.Statement.{statement}
 use Rattle.bytes_ask.proofs.answered.Tie as tie
 
-pub answered-spec : {M : Type 1} → statement M
-answered-spec =
+pub answered_spec : {M : Type 1} → statement M
+answered_spec =
     tie.close
     (tie.spec
     (λ c. search rules) (λ c κs. search rules) (λ c. search rules) (λ c. search rules)
-    (λ c. simp (c.refusal.ensures, c.before.before.a.given.1))
+    (λ c. simp (c.refusal.ensures, c.before.before.a-1.requires.1))
     (λ c. search rules) (λ c. search rules))

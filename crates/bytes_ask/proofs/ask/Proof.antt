@@ -8,34 +8,34 @@ use borrow.Author.Rules.{rules}
 use Rattle.bytes_ask.proofs.ask.Statement.{statement}
 use Rattle.bytes_ask.proofs.ask.Tie as tie
 
-pub ask-spec : {M : Type 1} → statement M
-ask-spec =
+pub ask_spec : {M : Type 1} → statement M
+ask_spec =
     tie.close
     (tie.spec
     (λ c κs. search rules) (λ c κs. search rules)
     (λ c. let fault = c.before.before in
     let a = fault.before.before.before.args in
-    early a.q a.s.now a.position.now fault.copy-fault.ensures c.before.if1.true c.refusal.ensures)
-    (λ c κs. omega (arith, (copies _ c.before.copy-fault.ensures c.if1.false).size))
+    early a.q a.s.now a.position.now fault.copy_fault-f.ensures c.before.if-f-ne0.true c.refusal.ensures)
+    (λ c κs. omega (arith, (copies _ c.before.copy_fault-f.ensures c.if-f-ne0.false).size))
     (λ c. search rules)
     (λ c. let fine = c.before in
-    omega (arith, small _ fine.before.copy-fault.ensures fine.if1.false c.count_at.ensures.0))
+    omega (arith, small _ fine.before.copy_fault-f.ensures fine.if-f-ne0.false c.count_at-size.ensures.value))
     (λ c. let count = c.before in
     let fine = count.before in
-    sym (first_of_lem 1536 F.zero (omega (arith, small _ fine.before.copy-fault.ensures fine.if1.false count.count_at.ensures.0))))
+    sym (first_of_lem 1536 F.zero (omega (arith, small _ fine.before.copy_fault-f.ensures fine.if-f-ne0.false count.count_at-size.ensures.value))))
     (λ c. let count = c.before in
     let fine = count.before in
-    omega (arith, small _ fine.before.copy-fault.ensures fine.if1.false count.count_at.ensures.0))
+    omega (arith, small _ fine.before.copy_fault-f.ensures fine.if-f-ne0.false count.count_at-size.ensures.value))
     (λ c. let count = c.before.before in
     let fine = count.before in
-    sym (first_of_lem 1536 F.zero (omega (arith, small _ fine.before.copy-fault.ensures fine.if1.false count.count_at.ensures.0))))
+    sym (first_of_lem 1536 F.zero (omega (arith, small _ fine.before.copy_fault-f.ensures fine.if-f-ne0.false count.count_at-size.ensures.value))))
     (λ c κs. let count = c.before.before in
     let fine = count.before in
-    let fault = fine.before.copy-fault.ensures in
-    let few = small _ fault fine.if1.false count.count_at.ensures.0 in
-    arrays _ fault fine.if1.false count.count_at.ensures.0 (first_of_lem 1536 F.zero (omega arith)) (first_of_lem 1536 F.zero (omega arith)))
+    let fault = fine.before.copy_fault-f.ensures in
+    let few = small _ fault fine.if-f-ne0.false count.count_at-size.ensures.value in
+    arrays _ fault fine.if-f-ne0.false count.count_at-size.ensures.value (first_of_lem 1536 F.zero (omega arith)) (first_of_lem 1536 F.zero (omega arith)))
     (λ c. let copied = c.before.before in
     let fine = copied.before.before.before.before in
     let fault = fine.before in
     let a = fault.before.before.before.args in
-    late a.s.now fault.copy-fault.ensures fine.if1.false a.q a.position.now copied.ask_in.ensures))
+    late a.s.now fault.copy_fault-f.ensures fine.if-f-ne0.false a.q a.position.now copied.ask_in.ensures))

@@ -3,9 +3,9 @@ use borrow.Author.Rules.{rules}
 use Rattle.bytes_ask.proofs.is_convex.Statement.{statement}
 use Rattle.bytes_ask.proofs.is_convex.Tie as tie
 
-pub is-convex-spec : {M : Type 1} → statement M
+pub is_convex_spec : {M : Type 1} → statement M
 unfolding told_by
-is-convex-spec =
+is_convex_spec =
     tie.close
     (tie.spec
     (λ c κs. search rules)

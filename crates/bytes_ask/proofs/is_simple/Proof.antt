@@ -3,9 +3,9 @@ use borrow.Author.Rules.{rules}
 use Rattle.bytes_ask.proofs.is_simple.Statement.{statement}
 use Rattle.bytes_ask.proofs.is_simple.Tie as tie
 
-pub is-simple-spec : {M : Type 1} → statement M
+pub is_simple_spec : {M : Type 1} → statement M
 unfolding told_by
-is-simple-spec =
+is_simple_spec =
     tie.close
     (tie.spec
     (λ c κs. search rules)

@@ -7,15 +7,15 @@ use borrow.Author.Rules.{rules}
 use Rattle.bytes_ask.proofs.place.Statement.{statement}
 use Rattle.bytes_ask.proofs.place.Tie as tie
 
-pub place-spec : {M : Type 1} → statement M
-place-spec =
+pub place_spec : {M : Type 1} → statement M
+place_spec =
     tie.close
     (tie.spec
     (λ c κs. search rules) (λ c κs. search rules)
-    (λ c. gone_number _ c.before.before.header-fault.ensures c.before.if1.true c.refusal.ensures)
-    (λ c κs. omega (arith, header_size_lem _ (sym c.before.header-fault.ensures ∙ c.if1.false)))
+    (λ c. gone_number _ c.before.before.header_fault-f.ensures c.before.if-f-ne0.true c.refusal.ensures)
+    (λ c κs. omega (arith, header_size_lem _ (sym c.before.header_fault-f.ensures ∙ c.if-f-ne0.false)))
     (λ c κs. search rules) (λ c κs. search rules)
     (λ c. let asked = c.before in
     let header = asked.before in
     let fine = header.before in
-    went_number _ fine.before.header-fault.ensures fine.if1.false (simp header.header_at.ensures at asked.contains_position.ensures) c.placed.ensures))
+    went_number _ fine.before.header_fault-f.ensures fine.if-f-ne0.false (simp header.header_at.ensures at asked.contains_position.ensures) c.placed.ensures))

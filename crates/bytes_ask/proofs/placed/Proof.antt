@@ -2,10 +2,10 @@ use borrow.Author.Rules.{rules}
 use Rattle.bytes_ask.proofs.placed.Statement.{statement}
 use Rattle.bytes_ask.proofs.placed.Tie as tie
 
-pub placed-spec : {M : Type 1} → statement M
-placed-spec =
+pub placed_spec : {M : Type 1} → statement M
+placed_spec =
     tie.close
     (tie.spec
     (λ c. search rules) (λ c κs. search rules) (λ c. search rules) (λ c. search rules) (λ c. search rules)
-    (λ c. simp (c.refusal.ensures, c.before.before.p.given.1))
+    (λ c. simp (c.refusal.ensures, c.before.before.p-1.requires.1))
     (λ c. search rules) (λ c. search rules) (λ c. search rules))

@@ -8,30 +8,30 @@ use borrow.Author.Rules.{rules}
 use Rattle.bytes_build.proofs.build.Statement.{statement}
 use Rattle.bytes_build.proofs.build.Tie as tie
 
-returns : tie.Need-returns
-returns c = unread _ _ _ c.before.if1.true c.refusal.ensures
+returns : tie.Need-returns-then-list-ne0
+returns c = unread _ _ _ c.before.if-list-ne0.true c.refusal.ensures
 
-returns-2 : tie.Need-returns-2
-returns-2 c = too_long_lem _ _ _ c.before.before.if1.false c.before.if2.true c.refusal2.ensures
+returns-2 : tie.Need-returns-then-m-gt512
+returns-2 c = too_long_lem _ _ _ c.before.before.if-list-ne0.false c.before.if-m-gt512.true c.refusal-then-m-gt512.ensures
 
-build-in-requires : tie.Need-build-in-requires
+build-in-requires : tie.Need-build_in-requires
 build-in-requires c κs =
     let room = c.before.before.before.before.before in
     let positions = room.before.before in
     let start = positions.before.before.before in
-    let many = room.corners-for.ensures in (
+    let many = room.corners_for-n.ensures in (
       roomy _ many.0 (first_of_lem 1536 F.zero (omega arith)) (first_of_lem 1536 F.zero (omega arith)) (first_of_lem 512 0 (omega arith)),
-      given_size start.args.list.now _ (first_of_lem 1536 F.zero (omega arith)) positions.if1.false,
+      given_size start.args.list.now _ (first_of_lem 1536 F.zero (omega arith)) positions.if-list-ne0.false,
     )
 
-returns-3 : tie.Need-returns-3
+returns-3 : tie.Need-returns
 returns-3 c =
     let built = c.before.before.before.before.before.before in
     let positions = built.before.before.before.before.before.before.before.before in
-    in_bytes _ _ _ positions.if1.false built.build-in.ensures
+    in_bytes _ _ _ positions.if-list-ne0.false built.build_in.ensures
 
-pub build-spec : {M : Type 1} → statement M
-build-spec =
+pub build_spec : {M : Type 1} → statement M
+build_spec =
     tie.close
     (tie.spec
     (λ c κs. search rules)

@@ -5,36 +5,36 @@ use borrow.Author.Rules.{rules}
 use Rattle.bytes_build.proofs.build_floats.Statement.{statement}
 use Rattle.bytes_build.proofs.build_floats.Tie as tie
 
-returns : tie.Need-returns
+returns : tie.Need-returns-then-header-lt-HEADER
 returns c =
     let first = c.before in
     let fault = first.before in
     let short = fault.before in
     let start = short.before.before.before.before.before.before in
     let a = start.args in
-    unheaded a.mode a.list.now a.positions.now a.normals.now a.classes.now a.header.now (omega (arith, short.if1.true))
-    (simp (first.first.ensures, fault.list-fault.ensures) at c.refusal.ensures)
+    unheaded a.mode a.list.now a.positions-1.now a.normals-1.now a.classes-1.now a.header-1.now (omega (arith, short.if-header-lt-HEADER.true))
+    (simp (first.first.ensures, fault.list_fault.ensures) at c.refusal.ensures)
 
-leave-header-requires : tie.Need-leave-header-requires
+leave-header-requires : tie.Need-leave_header-requires
 leave-header-requires c κs =
     let built = c.before.before.before.before.before.before.before in
     let room = built.before.before.before.before in
     let start = room.before.before.before.before.before.before in
     let a = start.args in
-    (counted_told a.mode a.list.now a.positions.now a.normals.now a.classes.now a.header.now built.build.ensures, room.if1.false)
+    (counted_told a.mode a.list.now a.positions-1.now a.normals-1.now a.classes-1.now a.header-1.now built.build.ensures, room.if-header-lt-HEADER.false)
 
-returns-2 : tie.Need-returns-2
+returns-2 : tie.Need-returns
 returns-2 c =
     let left = c.before.before in
     let built = left.before.before.before.before.before.before.before.before in
     let room = built.before.before.before.before in
     let start = room.before.before.before.before.before.before in
     let a = start.args in
-    headed a.mode a.list.now a.positions.now a.normals.now a.classes.now a.header.now built.build.ensures room.if1.false
-    left.leave-header.ensures
+    headed a.mode a.list.now a.positions-1.now a.normals-1.now a.classes-1.now a.header-1.now built.build.ensures room.if-header-lt-HEADER.false
+    left.leave_header.ensures
 
-pub build-floats-spec : {M : Type 1} → statement M
-build-floats-spec =
+pub build_floats_spec : {M : Type 1} → statement M
+build_floats_spec =
     tie.close
     (tie.spec
     (λ c κs. search rules) (λ c κs. search rules) (λ c κs. search rules)

@@ -4,14 +4,14 @@ use borrow.Author.Rules.{rules}
 use Rattle.bytes_build.proofs.leave_header.Statement.{statement}
 use Rattle.bytes_build.proofs.leave_header.Tie as tie
 
-pub leave-header-spec : {M : Type 1} → statement M
-leave-header-spec =
+pub leave_header_spec : {M : Type 1} → statement M
+leave_header_spec =
     tie.close
     (tie.spec
     (λ c. search rules) (λ c κs. search rules) (λ c. search rules) (λ c κs. search rules)
     (λ c. let told = c.before.before.before.before.before.before in
-    let counted = simp told.b2.given.1 at told.before.before.before.requires.0 in
+    let counted = simp told.b-in-Loop-1.requires.1 at told.before.before.before.requires.0 in
     omega (arith, counted))
-    (λ c. simp (c.refusal.ensures, c.before.before.b.given.1))
+    (λ c. simp (c.refusal.ensures, c.before.before.b-1.requires.1))
     (λ c. search rules)
-    (λ c. let put = c.before.before.before in simp (put.before.before.before.b2.given.1, put.put-header.ensures)))
+    (λ c. let put = c.before.before.before in simp (put.before.before.before.b-in-Loop-1.requires.1, put.put_header.ensures)))

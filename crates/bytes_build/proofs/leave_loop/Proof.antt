@@ -8,13 +8,13 @@ use borrow.Author.Rules.{rules}
 use Rattle.bytes_build.proofs.leave_loop.Statement.{statement}
 use Rattle.bytes_build.proofs.leave_loop.Tie as tie
 
-pub leave-loop-spec : {M : Type 1} → statement M
+pub leave_loop_spec : {M : Type 1} → statement M
 unfolding loop_outcome
-leave-loop-spec =
+leave_loop_spec =
     tie.close
     (tie.spec
     (λ c κs. search rules)
-    (λ c. simp (lt-ltb _ _ c.before.if1.true, c.refusal.ensures))
+    (λ c. simp (lt-ltb _ _ c.before.if-out-lt-HEADER.true, c.refusal.ensures))
     (λ c. search rules)
     (λ c. let start = c.before.before.before.before.before.before.before in sym (length-take-le _ _ start.requires.for_positions))
     (λ c. let start = c.before.before.before.before.before.before.before.before in sym (length-take-le _ _ start.requires.for_normals))
@@ -22,8 +22,8 @@ leave-loop-spec =
     (λ c κs. let room = c.before.before.before.before in
     let start = room.before.before.before.before.before in
     let a = start.args in
-    parts a.h a.positions.now a.normals.now a.classes.now start.requires room.if1.false)
+    parts a.h a.positions.now a.normals.now a.classes.now start.requires room.if-out-lt-HEADER.false)
     (λ c. search rules) (λ c. search rules)
     (λ c. let put = c.before.before in
     let room = put.before.before.before.before.before in
-    simp (le-ltb _ _ room.if1.false, put.put-loop.ensures)))
+    simp (le-ltb _ _ room.if-out-lt-HEADER.false, put.put_loop.ensures)))

@@ -4,8 +4,8 @@ use borrow.Author.Rules.{rules}
 use Rattle.bytes_check.proofs.accepts_in.Statement.{statement}
 use Rattle.bytes_check.proofs.accepts_in.Tie as tie
 
-pub accepts-in-spec : {M : Type 1} → statement M
-accepts-in-spec =
+pub accepts_in_spec : {M : Type 1} → statement M
+accepts_in_spec =
     tie.close
     (tie.spec
     (λ c κs. search rules) (λ c κs. search rules) (λ c κs. search rules) (λ c κs. search rules) (λ c. search rules)
@@ -15,5 +15,5 @@ accepts-in-spec =
     let positions = numbers.before.before.before.before in
     let from = positions.before.before in
     let start = from.before.before.before.before.before in
-    simp (c.before.accepts.ensures, header.header_at.ensures, positions.read-positions.ensures, classes_read start.args.s.now from.classes-from.ensures, numbers.read-numbers.ensures)
+    simp (c.before.accepts.ensures, header.header_at.ensures, positions.read_positions.ensures, classes_read start.args.s.now from.classes_from-from.ensures, numbers.read_numbers.ensures)
     at c.answered.ensures))

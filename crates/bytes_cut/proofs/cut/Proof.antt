@@ -14,20 +14,20 @@ cut_spec =
     tie.close
     (tie.spec
     (λ c κs. search rules) (λ c κs. search rules)
-    (λ c. early _ _ c.before.before.copy-fault.ensures c.before.if1.true c.refusal.ensures)
-    (λ c κs. omega (arith, (copies _ c.before.copy-fault.ensures c.if1.false).size))
+    (λ c. early _ _ c.before.before.copy_fault-f.ensures c.before.if-f-ne0.true c.refusal.ensures)
+    (λ c κs. omega (arith, (copies _ c.before.copy_fault-f.ensures c.if-f-ne0.false).size))
     (λ c. search rules)
     (λ c. let fine = c.before in
-    omega (arith, small _ fine.before.copy-fault.ensures fine.if1.false c.count_at.ensures.0))
+    omega (arith, small _ fine.before.copy_fault-f.ensures fine.if-f-ne0.false c.count_at-size.ensures.value))
     (λ c. let count = c.before in
     let fine = count.before in
-    sym (first_of_lem 1536 F.zero (omega (arith, small _ fine.before.copy-fault.ensures fine.if1.false count.count_at.ensures.0))))
+    sym (first_of_lem 1536 F.zero (omega (arith, small _ fine.before.copy_fault-f.ensures fine.if-f-ne0.false count.count_at-size.ensures.value))))
     (λ c κs. let count = c.before.before in
     let fine = count.before in
-    let fault = fine.before.copy-fault.ensures in
-    let few = small _ fault fine.if1.false count.count_at.ensures.0 in
-    array _ fault fine.if1.false count.count_at.ensures.0 (first_of_lem 1536 F.zero (omega arith)))
+    let fault = fine.before.copy_fault-f.ensures in
+    let few = small _ fault fine.if-f-ne0.false count.count_at-size.ensures.value in
+    array _ fault fine.if-f-ne0.false count.count_at-size.ensures.value (first_of_lem 1536 F.zero (omega arith)))
     (λ c. search rules)
     (λ c. let copied = c.before.before.before in
     let fine = copied.before.before.before.before in
-    late _ fine.before.copy-fault.ensures fine.if1.false _ copied.cut_in.ensures))
+    late _ fine.before.copy_fault-f.ensures fine.if-f-ne0.false _ copied.cut_in.ensures))

@@ -4,8 +4,8 @@ use borrow.Author.Rules.{rules}
 use Rattle.bytes_cut.proofs.cut_in.Statement.{statement}
 use Rattle.bytes_cut.proofs.cut_in.Tie as tie
 
-pub cut-in-spec : {M : Type 1} → statement M
-cut-in-spec =
+pub cut_in_spec : {M : Type 1} → statement M
+cut_in_spec =
     tie.close
     (tie.spec
     (λ c κs. search rules) (λ c κs. search rules) (λ c κs. search rules) (λ c. search rules) (λ c. search rules)
@@ -15,4 +15,4 @@ cut-in-spec =
     let read = header.before.before.before in
     let from = read.before.before in
     let start = from.before.before.before.before in
-    simp (header.header_at.ensures, read.read-positions.ensures, classes_read start.args.s.now from.classes-from.ensures) at cut.cut_parts.ensures))
+    simp (header.header_at.ensures, read.read_positions.ensures, classes_read start.args.s.now from.classes_from-from.ensures) at cut.cut_parts.ensures))

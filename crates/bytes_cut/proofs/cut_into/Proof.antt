@@ -4,11 +4,11 @@ use borrow.Author.Rules.{rules}
 use Rattle.bytes_cut.proofs.cut_into.Statement.{statement}
 use Rattle.bytes_cut.proofs.cut_into.Tie as tie
 
-pub cut-into-spec : {M : Type 1} → statement M
-cut-into-spec =
+pub cut_into_spec : {M : Type 1} → statement M
+cut_into_spec =
     tie.close
     (tie.spec
     (λ c κs. search rules)
-    (λ c κs. (counted _ _ _ _ c.before.before.before.before.triangulate.ensures, omega (arith, c.before.before.before.before.before.before.before.before.before.before.requires)))
+    (λ c κs. (counted _ _ _ _ c.before.before.before.before.triangulate-c.ensures, omega (arith, c.before.before.before.before.before.before.before.before.before.before.requires)))
     (λ c. search rules) (λ c. search rules)
-    (λ c. slid _ c.before.before.before.before.before.before.before.triangulate.ensures c.before.before.leave-cut.ensures))
+    (λ c. slid _ c.before.before.before.before.before.before.before.triangulate-c.ensures c.before.before.leave_cut.ensures))

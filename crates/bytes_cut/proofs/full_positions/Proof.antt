@@ -5,17 +5,17 @@ use Rattle.bytes_cut.specs.Cut.{full_positions_outcome}
 use Rattle.bytes_cut.proofs.full_positions.Statement.{statement}
 use Rattle.bytes_cut.proofs.full_positions.Tie as tie
 
-returns : tie.Need-returns
+returns : tie.Need-returns-then-out-lt36
 unfolding full_positions_outcome
-returns c = simp (lt-ltb _ _ c.before.if1.true, c.refusal.ensures)
+returns c = simp (lt-ltb _ _ c.before.if-out-lt36.true, c.refusal.ensures)
 
-returns-2 : tie.Need-returns-2
+returns-2 : tie.Need-returns
 unfolding full_positions_outcome
 returns-2 c =
     let laid = c.before.before in
-    simp (le-ltb _ _ laid.before.before.if1.false, laid.write-positions.ensures)
+    simp (le-ltb _ _ laid.before.before.if-out-lt36.false, laid.write_positions.ensures)
 
-pub full-positions-spec : {M : Type 1} → statement M
-full-positions-spec =
+pub full_positions_spec : {M : Type 1} → statement M
+full_positions_spec =
     tie.close
     (tie.spec (λ c κs. search rules) returns (λ c κs. search rules) (λ c. search rules) returns-2)

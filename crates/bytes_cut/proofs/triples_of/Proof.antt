@@ -3,10 +3,10 @@ use borrow.Author.Rules.{rules}
 use Rattle.bytes_cut.proofs.triples_of.Statement.{statement}
 use Rattle.bytes_cut.proofs.triples_of.Tie as tie
 
-pub triples-of-spec : {M : Type 1} → statement M
-triples-of-spec =
+pub triples_of_spec : {M : Type 1} → statement M
+triples_of_spec =
     tie.close
     (tie.spec
     (λ c. search rules) (λ c. search rules) (λ c. search rules) (λ c. search rules) (λ c. search rules) (λ c. search rules)
-    (λ c. (simp c.before.enum-told3.given.1 (omega arith), omega arith))
-    (λ c. (simp c.before.enum-told3.given.1, omega arith)))
+    (λ c. (simp c.before.enum_told-in-Ring-1.requires.1 (omega arith), omega arith))
+    (λ c. (simp c.before.enum_told-in-Ring-1.requires.1, omega arith)))

@@ -6,10 +6,10 @@ use Rattle.bytes_distances.proofs.arc_far.Tie as tie
 returns : tie.Need-returns
 returns c =
     let left = c.before.before in
-    simp left.before.told-arc.ensures at left.leave.ensures
+    simp left.before.told_arc.ensures at left.leave.ensures
 
-pub arc-far-spec : {M : Type 1} → statement M
-arc-far-spec =
+pub arc_far_spec : {M : Type 1} → statement M
+arc_far_spec =
     tie.close
     (tie.spec
     (λ c κs. search rules) (λ c κs. search rules) (λ c. search rules) returns)

@@ -8,8 +8,8 @@ returns c =
     let left = c.before.before in
     simp left.before.told.ensures at left.leave.ensures
 
-pub far-spec : {M : Type 1} → statement M
-far-spec =
+pub far_spec : {M : Type 1} → statement M
+far_spec =
     tie.close
     (tie.spec
     (λ c κs. search rules) (λ c κs. search rules) (λ c. search rules) returns)

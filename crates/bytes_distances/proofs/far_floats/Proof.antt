@@ -6,10 +6,10 @@ use Rattle.bytes_distances.proofs.far_floats.Tie as tie
 returns : tie.Need-returns
 returns c =
     let left = c.before.before in
-    simp left.before.told-floats.ensures at left.leave-float.ensures
+    simp left.before.told_floats.ensures at left.leave_float.ensures
 
-pub far-floats-spec : {M : Type 1} → statement M
-far-floats-spec =
+pub far_floats_spec : {M : Type 1} → statement M
+far_floats_spec =
     tie.close
     (tie.spec
     (λ c κs. search rules) (λ c κs. search rules) (λ c. search rules) returns)

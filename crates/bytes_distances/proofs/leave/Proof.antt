@@ -4,10 +4,10 @@ use borrow.Author.Rules.{rules}
 use Rattle.bytes_distances.proofs.leave.Statement.{statement}
 use Rattle.bytes_distances.proofs.leave.Tie as tie
 
-written : tie.Need-returns-2
+written : tie.Need-returns-in-Chord
 written c =
     let left = c.before.before in
-    simp left.before.before.before.d2.given.1 left.leave-chord.ensures
+    simp left.before.before.before.d-in-Chord-1.requires.1 left.leave_chord.ensures
 
 pub leave_spec : {M : Type 1} → statement M
 unfolding leave
@@ -15,5 +15,5 @@ leave_spec =
     tie.close
     (tie.spec
     (λ c. search rules) (λ c κs. search rules) (λ c. search rules) (λ c κs. search rules)
-    (λ c. simp (c.refusal.ensures, c.before.before.d.given.1))
+    (λ c. simp (c.refusal.ensures, c.before.before.d-1.requires.1))
     (λ c. search rules) written)

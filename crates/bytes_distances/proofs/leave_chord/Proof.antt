@@ -4,20 +4,20 @@ use borrow.Author.Rules.{rules}
 use Rattle.bytes_distances.proofs.leave_chord.Statement.{statement}
 use Rattle.bytes_distances.proofs.leave_chord.Tie as tie
 
-none : tie.Need-returns
+none : tie.Need-returns-then-out-lt-CHORD
 none c =
     let a = c.before.before.before.args in
-    no_room a.c a.out.now c.before.if1.true c.refusal.ensures
+    no_room a.c a.out-1.now c.before.if-out-lt-CHORD.true c.refusal.ensures
 
-written : tie.Need-returns-2
+written : tie.Need-returns
 written c =
     let put = c.before.before in
     let enough = put.before.before in
     let a = enough.before.before.args in
-    room a.c a.out.now enough.if1.false put.put-float.ensures
+    room a.c a.out-1.now enough.if-out-lt-CHORD.false put.put_float.ensures
 
-pub leave-chord-spec : {M : Type 1} → statement M
-leave-chord-spec =
+pub leave_chord_spec : {M : Type 1} → statement M
+leave_chord_spec =
     tie.close
     (tie.spec
     (λ c κs. search rules) none (λ c κs. search rules) (λ c. search rules) written)

@@ -4,16 +4,16 @@ use borrow.Author.Rules.{rules}
 use Rattle.bytes_distances.proofs.leave_float.Statement.{statement}
 use Rattle.bytes_distances.proofs.leave_float.Tie as tie
 
-written : tie.Need-returns-2
+written : tie.Need-returns-in-Chord
 written c =
     let left = c.before.before in
-    simp left.before.before.before.d2.given.1 left.leave-float-chord.ensures
+    simp left.before.before.before.d-in-Chord-1.requires.1 left.leave_float_chord.ensures
 
-pub leave-float-spec : {M : Type 1} → statement M
+pub leave_float_spec : {M : Type 1} → statement M
 unfolding leave_float
-leave-float-spec =
+leave_float_spec =
     tie.close
     (tie.spec
     (λ c. search rules) (λ c κs. search rules) (λ c. search rules) (λ c κs. search rules)
-    (λ c. simp (c.refusal.ensures, c.before.before.d.given.1))
+    (λ c. simp (c.refusal.ensures, c.before.before.d-1.requires.1))
     (λ c. search rules) written)

@@ -6,29 +6,29 @@ use borrow.Author.Rules.{rules}
 use Rattle.bytes_distances.proofs.told_arc.Statement.{statement}
 use Rattle.bytes_distances.proofs.told_arc.Tie as tie
 
-arc : tie.Need-arc-at-requires
+arc : tie.Need-arc_at-requires
 arc c κs =
     let judged = c.before in
     let a = judged.before.before.before.args in
-    arc_long a.arc.now a.position.now vec_size judged.next-judged.ensures c.if1.false
+    arc_long a.arc.now a.position.now vec_size judged.next_judged-f.ensures c.if-f-ne0.false
 
-position : tie.Need-vec-at-requires
+position : tie.Need-vec_at-requires
 position c κs =
     let judged = c.before.before in
     let a = judged.before.before.before.args in
-    next_long a.arc.now a.position.now vec_size judged.next-judged.ensures c.before.if1.false
+    next_long a.arc.now a.position.now vec_size judged.next_judged-f.ensures c.before.if-f-ne0.false
 
-read : tie.Need-returns-2
+read : tie.Need-returns
 read c =
     let position = c.before in
     let arc = position.before in
     let fine = arc.before in
-    went_on _ fine.before.next-judged.ensures fine.if1.false (simp (arc.arc-at.ensures, position.vec-at.ensures) at c.distance-to.ensures)
+    went_on _ fine.before.next_judged-f.ensures fine.if-f-ne0.false (simp (arc.arc_at.ensures, position.vec_at.ensures) at c.distance_to.ensures)
 
-pub told-arc-spec : {M : Type 1} → statement M
-told-arc-spec =
+pub told_arc_spec : {M : Type 1} → statement M
+told_arc_spec =
     tie.close
     (tie.spec
     (λ c κs. search rules)
-    (λ c. gone _ c.before.next-judged.ensures c.if1.true)
+    (λ c. gone _ c.before.next_judged-f.ensures c.if-f-ne0.true)
     arc position (λ c κs. search rules) read)

@@ -10,11 +10,11 @@ returns c =
     let read = header.before.before.before.before.before in
     let from = read.before.before.before in
     let start = from.before.before.before.before.before in
-    simp (header.header_at.ensures, read.read-vectors.ensures.0, read.read-vectors.ensures.1, classes_read start.args.s.now from.classes-from.ensures)
-    at c.told-by.ensures
+    simp (header.header_at.ensures, read.read_vectors.ensures.positions_after, read.read_vectors.ensures.normals_after, classes_read start.args.s.now from.classes_from-from.ensures)
+    at c.told_by.ensures
 
-pub told-in-spec : {M : Type 1} → statement M
-told-in-spec =
+pub told_in_spec : {M : Type 1} → statement M
+told_in_spec =
     tie.close
     (tie.spec
     (λ c κs. search rules) (λ c κs. search rules) (λ c κs. search rules) (λ c. search rules) (λ c. search rules)

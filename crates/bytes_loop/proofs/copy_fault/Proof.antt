@@ -7,12 +7,12 @@ use borrow.Author.Rules.{rules}
 use Rattle.bytes_loop.proofs.copy_fault.Statement.{statement}
 use Rattle.bytes_loop.proofs.copy_fault.Tie as tie
 
-pub copy-fault-spec : {M : Type 1} → statement M
+pub copy_fault_spec : {M : Type 1} → statement M
 unfolding copy_fault
-copy-fault-spec =
+copy_fault_spec =
     tie.close
     (tie.spec
     (λ c κs. search rules)
-    (λ c. rw (← c.before.frame-fault.ensures) (sym (first_hit _ _ c.if1.true)))
-    (λ c κs. omega (arith, frame_size _ (sym c.before.frame-fault.ensures ∙ c.if1.false)))
-    (λ c. simp (← c.before.before.frame-fault.ensures, c.before.if1.false, c.many-fault.ensures)))
+    (λ c. rw (← c.before.frame_fault-f.ensures) (sym (first_hit _ _ c.if-f-ne0.true)))
+    (λ c κs. omega (arith, frame_size _ (sym c.before.frame_fault-f.ensures ∙ c.if-f-ne0.false)))
+    (λ c. simp (← c.before.before.frame_fault-f.ensures, c.before.if-f-ne0.false, c.many_fault.ensures)))

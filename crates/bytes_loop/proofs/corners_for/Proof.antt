@@ -5,11 +5,11 @@ use Rattle.bytes_loop.specs.Layout.{corners_for}
 use Rattle.bytes_loop.proofs.corners_for.Statement.{statement}
 use Rattle.bytes_loop.proofs.corners_for.Tie as tie
 
-pub corners-for-spec : {M : Type 1} → statement M
+pub corners_for_spec : {M : Type 1} → statement M
 unfolding corners_for
-corners-for-spec =
+corners_for_spec =
     tie.close
     (tie.spec
-    (λ c. (simp (lt-ltb _ _ c.if1.true), omega arith))
-    (λ c. (simp (le-ltb _ _ c.before.if1.false, lt-ltb _ _ c.if2.true), omega arith))
-    (λ c. (simp (le-ltb _ _ c.before.if1.false, le-ltb _ _ c.if2.false), omega arith)))
+    (λ c. (simp (lt-ltb _ _ c.if-size-lt-HEADER.true), omega arith))
+    (λ c. (simp (le-ltb _ _ c.before.if-size-lt-HEADER.false, lt-ltb _ _ c.if-n-gt512.true), omega arith))
+    (λ c. (simp (le-ltb _ _ c.before.if-size-lt-HEADER.false, le-ltb _ _ c.if-n-gt512.false), omega arith)))

@@ -14,17 +14,17 @@ returns c =
     let count = state.before.before in
     simp (
       c.Mode-of.ensures,
-      long.has-mark3.ensures,
-      weak.has-mark2.ensures,
-      reversed.has-mark.ensures,
-      insides.insides-at.ensures,
-      cap.cap-at.ensures,
-      state.state-of.ensures,
-      count.count_at.ensures.0,
+      long.has_mark.ensures,
+      weak.has_mark-weak.ensures,
+      reversed.has_mark-reversed.ensures,
+      insides.insides_at-insides.ensures,
+      cap.cap_at-cap.ensures,
+      state.state_of-state.ensures,
+      count.count_at-count.ensures.value,
     )
 
-pub header-at-spec : {M : Type 1} → statement M
-header-at-spec =
+pub header_at_spec : {M : Type 1} → statement M
+header_at_spec =
     tie.close
     (tie.spec
     (λ c κs. search rules) (λ c. search rules) (λ c κs. search rules) (λ c κs. search rules)

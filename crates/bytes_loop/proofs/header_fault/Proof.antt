@@ -5,12 +5,12 @@ use borrow.Author.Rules.{rules}
 use Rattle.bytes_loop.proofs.header_fault.Statement.{statement}
 use Rattle.bytes_loop.proofs.header_fault.Tie as tie
 
-pub header-fault-spec : {M : Type 1} → statement M
+pub header_fault_spec : {M : Type 1} → statement M
 unfolding state_fault
-header-fault-spec =
+header_fault_spec =
     tie.close
     (tie.spec
-    (λ c. header_wrong _ c.if1.true)
+    (λ c. header_wrong _ c.if-s-ne-HEADER.true)
     (λ c. search rules)
-    (λ c. header_state _ c.before.before.if1.false (simp (lt-ltb _ _ c.if2.true)))
-    (λ c. header_state _ c.before.before.if1.false (simp (le-ltb _ _ c.if2.false))))
+    (λ c. header_state _ c.before.before.if-s-ne-HEADER.false (simp (lt-ltb _ _ c.if-s-gt2.true)))
+    (λ c. header_state _ c.before.before.if-s-ne-HEADER.false (simp (le-ltb _ _ c.if-s-gt2.false))))

@@ -4,11 +4,11 @@ use borrow.Author.Rules.{rules}
 use Rattle.bytes_loop.proofs.many_fault.Statement.{statement}
 use Rattle.bytes_loop.proofs.many_fault.Tie as tie
 
-pub many-fault-spec : {M : Type 1} → statement M
+pub many_fault_spec : {M : Type 1} → statement M
 unfolding many_fault
-many-fault-spec =
+many_fault_spec =
     tie.close
     (tie.spec
     (λ c κs. search rules) (λ c. search rules) (λ c κs. search rules) (λ c κs. search rules)
-    (λ c. simp (← c.before.before.before.before.count_at.ensures.0, lt-ltb _ _ c.before.before.before.if1.true, c.large-fault.ensures, c.before.state-of.ensures))
-    (λ c. simp (← c.before.count_at.ensures.0, le-ltb _ _ c.if1.false)))
+    (λ c. simp (← c.before.before.before.before.count_at.ensures.value, lt-ltb _ _ c.before.before.before.if-count_at-gt512.true, c.large_fault.ensures, c.before.state_of.ensures))
+    (λ c. simp (← c.before.count_at.ensures.value, le-ltb _ _ c.if-count_at-gt512.false)))

@@ -11,16 +11,16 @@ returns c =
     let weak = there.before in
     let reversed = weak.before in
     simp (
-      c.mark-if4.ensures.0,
-      long.is-long.ensures,
-      insides.mark-if3.ensures.0,
-      there.are-there.ensures,
-      weak.mark-if2.ensures.0,
-      reversed.mark-if.ensures.0,
+      c.mark_if.ensures.value,
+      long.is_long.ensures,
+      insides.mark_if-c.ensures.value,
+      there.are_there.ensures,
+      weak.mark_if-b.ensures.value,
+      reversed.mark_if-a.ensures.value,
     )
 
-pub marks-of-spec : {M : Type 1} → statement M
-marks-of-spec =
+pub marks_of_spec : {M : Type 1} → statement M
+marks_of_spec =
     tie.close
     (tie.spec
     (λ c κs. search rules) (λ c κs. search rules) (λ c κs. search rules) (λ c κs. search rules)

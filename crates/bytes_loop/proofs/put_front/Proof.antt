@@ -3,8 +3,8 @@ use borrow.Author.Rules.{rules}
 use Rattle.bytes_loop.proofs.put_front.Statement.{statement}
 use Rattle.bytes_loop.proofs.put_front.Tie as tie
 
-pub put-front-spec : {M : Type 1} → statement M
-put-front-spec =
+pub put_front_spec : {M : Type 1} → statement M
+put_front_spec =
     tie.close
     (tie.spec
     (λ c κs. search rules) (λ c κs. search rules) (λ c κs. search rules) (λ c κs. search rules) (λ c. search rules)
@@ -12,4 +12,4 @@ put-front-spec =
     let zeros = last.before.before.before.before in
     let codes = zeros.before.before.before.before in
     let count = codes.before.before.before.before in
-    simp (last.put-pair3.ensures, zeros.put-pair2.ensures, codes.put-pair.ensures, count.put-u16.ensures)))
+    simp (last.put_pair-3.ensures, zeros.put_pair-2.ensures, codes.put_pair.ensures, count.put_u16.ensures)))

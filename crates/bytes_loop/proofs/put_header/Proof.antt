@@ -8,9 +8,9 @@ use borrow.Author.Rules.{rules}
 use Rattle.bytes_loop.proofs.put_header.Statement.{statement}
 use Rattle.bytes_loop.proofs.put_header.Tie as tie
 
-pub put-header-spec : {M : Type 1} → statement M
+pub put_header_spec : {M : Type 1} → statement M
 unfolding header_bytes
-put-header-spec =
+put_header_spec =
     tie.close
     (tie.spec
     (λ c κs. search rules) (λ c κs. search rules) (λ c κs. search rules) (λ c κs. search rules)
@@ -20,6 +20,6 @@ put-header-spec =
     let front = cap.before.before.before.before in
     let a = front.before.before.before.before.before.args in
     let bytes = front_bytes a.h.count (state_code a.h.state) (marks_of a.h) in
-    three a.out.now bytes (cap_bytes a.h.cap) (insides_bytes a.h.insides) 0 8 40
-    (simp (front.before.marks-of.ensures, front.before.before.state-code.ensures) at front.put_front.ensures)
-    cap.put-cap.ensures insides.put-insides.ensures refl (simp (length-append, eight)) (omega arith)))
+    three a.out-1.now bytes (cap_bytes a.h.cap) (insides_bytes a.h.insides) 0 8 40
+    (simp (front.before.marks_of.ensures, front.before.before.state_code.ensures) at front.put_front.ensures)
+    cap.put_cap.ensures insides.put_insides.ensures refl (simp (length-append, eight)) (omega arith)))

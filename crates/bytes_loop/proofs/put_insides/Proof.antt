@@ -7,8 +7,8 @@ use borrow.Author.Rules.{rules}
 use Rattle.bytes_loop.proofs.put_insides.Statement.{statement}
 use Rattle.bytes_loop.proofs.put_insides.Tie as tie
 
-pub put-insides-spec : {M : Type 1} → statement M
-put-insides-spec =
+pub put_insides_spec : {M : Type 1} → statement M
+put_insides_spec =
     tie.close
     (tie.spec
     (λ c κs. search rules) (λ c κs. search rules) (λ c κs. search rules) (λ c κs. search rules)
@@ -16,6 +16,6 @@ put-insides-spec =
     (λ c. let second = c.before.before in
     let first = second.before.before.before.before.before in
     let a = first.before.before.before.before.args in
-    two a.out.now (vec_bytes (first_inside a.i)) (vec_bytes (second_inside a.i)) 40 64
-    (simp first.before.first-inside.ensures at first.put-vec.ensures) (simp second.before.second-inside.ensures at second.put-vec2.ensures)
+    two a.out-1.now (vec_bytes (first_inside a.i)) (vec_bytes (second_inside a.i)) 40 64
+    (simp first.before.first_inside.ensures at first.put_vec.ensures) (simp second.before.second_inside.ensures at second.put_vec-2.ensures)
     (omega (arith, width (first_inside a.i)))))

@@ -4,8 +4,8 @@ use borrow.Author.Rules.{rules}
 use Rattle.bytes_loop.proofs.put_loop.Statement.{statement}
 use Rattle.bytes_loop.proofs.put_loop.Tie as tie
 
-pub put-loop-spec : {M : Type 1} → statement M
-put-loop-spec =
+pub put_loop_spec : {M : Type 1} → statement M
+put_loop_spec =
     tie.close
     (tie.spec
     (λ c κs. search rules) (λ c κs. search rules) (λ c. search rules) (λ c. search rules) (λ c κs. search rules)
@@ -16,5 +16,5 @@ put-loop-spec =
     let header = positions.before.before.before.before in
     let start = header.before.before.before.before.before.before in
     let a = start.args in
-    laid a.h a.positions.now a.normals.now a.classes.now a.out.now start.requires
-    header.put-header.ensures positions.put-floats.ensures normals.put-floats2.ensures classes.put-bytes.ensures))
+    laid a.h a.positions.now a.normals.now a.classes.now a.out-1.now start.requires
+    header.put_header.ensures positions.put_floats.ensures normals.put_floats-2.ensures classes.put_bytes.ensures))

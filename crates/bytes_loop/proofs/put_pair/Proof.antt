@@ -5,8 +5,8 @@ use borrow.Author.Rules.{rules}
 use Rattle.bytes_loop.proofs.put_pair.Statement.{statement}
 use Rattle.bytes_loop.proofs.put_pair.Tie as tie
 
-pub put-pair-spec : {M : Type 1} → statement M
-put-pair-spec =
+pub put_pair_spec : {M : Type 1} → statement M
+put_pair_spec =
     tie.close
     (tie.spec
     (λ c. search rules) (λ c. search rules)

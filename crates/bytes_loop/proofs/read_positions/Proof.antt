@@ -4,11 +4,11 @@ use borrow.Author.Rules.{rules}
 use Rattle.bytes_loop.proofs.read_positions.Statement.{statement}
 use Rattle.bytes_loop.proofs.read_positions.Tie as tie
 
-pub read-positions-spec : {M : Type 1} → statement M
-read-positions-spec =
+pub read_positions_spec : {M : Type 1} → statement M
+read_positions_spec =
     tie.close
     (tie.spec
     (λ c κs. search rules) (λ c. search rules)
     (λ c. let read = c.before.before in
     let start = read.before.before.before.before in
-    positions_read start.args.s.now read.read-floats.ensures start.requires.for_positions))
+    positions_read start.args.s.now read.read_floats.ensures start.requires.for_positions))

@@ -4,8 +4,8 @@ use borrow.Author.Rules.{rules}
 use Rattle.bytes_loop.proofs.read_vectors.Statement.{statement}
 use Rattle.bytes_loop.proofs.read_vectors.Tie as tie
 
-pub read-vectors-spec : {M : Type 1} → statement M
-read-vectors-spec =
+pub read_vectors_spec : {M : Type 1} → statement M
+read_vectors_spec =
     tie.close
     (tie.spec
     (λ c κs. search rules) (λ c. search rules) (λ c. search rules) (λ c κs. search rules) (λ c κs. search rules)
@@ -14,6 +14,6 @@ read-vectors-spec =
     let positions = normals.before.before.before.before in
     let count = positions.before.before in
     let start = count.before.before.before.before in (
-      positions_read start.args.s.now positions.read-floats.ensures start.requires.for_positions,
-      normals_read start.args.s.now normals.read-floats2.ensures count.count_at.ensures.0 start.requires.for_normals,
+      positions_read start.args.s.now positions.read_floats.ensures start.requires.for_positions,
+      normals_read start.args.s.now normals.read_floats-2.ensures count.count_at.ensures.value start.requires.for_normals,
     )))

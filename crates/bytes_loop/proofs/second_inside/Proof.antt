@@ -2,10 +2,10 @@ use borrow.Author.Rules.{rules}
 use Rattle.bytes_loop.proofs.second_inside.Statement.{statement}
 use Rattle.bytes_loop.proofs.second_inside.Tie as tie
 
-pub second-inside-spec : {M : Type 1} → statement M
-second-inside-spec =
+pub second_inside_spec : {M : Type 1} → statement M
+second_inside_spec =
     tie.close
     (tie.spec
     (λ c. search rules) (λ c. search rules)
-    (λ c. simp c.enum_told.given.1)
+    (λ c. simp c.enum_told-1.requires.1)
     (λ c. search rules))

@@ -3,11 +3,11 @@ use Rattle.bytes_loop.specs.Layout.{state_of}
 use Rattle.bytes_loop.proofs.state_of.Statement.{statement}
 use Rattle.bytes_loop.proofs.state_of.Tie as tie
 
-pub state-of-spec : {M : Type 1} → statement M
+pub state_of_spec : {M : Type 1} → statement M
 unfolding state_of
-state-of-spec =
+state_of_spec =
     tie.close
     (tie.spec
-    (λ c. simp (eq-eqb _ _ c.if1.true))
-    (λ c. simp (ne_eqb _ _ c.before.if1.false, eq-eqb _ _ c.if2.true))
-    (λ c. simp (ne_eqb _ _ c.before.if1.false, ne_eqb _ _ c.if2.false)))
+    (λ c. simp (eq-eqb _ _ c.if-code-eq0.true))
+    (λ c. simp (ne_eqb _ _ c.before.if-code-eq0.false, eq-eqb _ _ c.if-code-eq1.true))
+    (λ c. simp (ne_eqb _ _ c.before.if-code-eq0.false, ne_eqb _ _ c.if-code-eq1.false)))

@@ -9,34 +9,34 @@ use borrow.Author.Rules.{rules}
 use Rattle.bytes_pair.proofs.against.Statement.{statement}
 use Rattle.bytes_pair.proofs.against.Tie as tie
 
-pub against-spec : {M : Type 1} → statement M
-against-spec =
+pub against_spec : {M : Type 1} → statement M
+against_spec =
     tie.close
     (tie.spec
     (λ c κs. search rules) (λ c κs. search rules)
     (λ c. let fault = c.before.before in
     let a = fault.before.before.before.before.before.args in
-    second_early a.q a.h a.positions.now a.normals.now a.classes.now a.b.now fault.copy-fault.ensures c.before.if1.true c.no-pair.ensures)
-    (λ c κs. omega (arith, (copies _ c.before.copy-fault.ensures c.if1.false).size))
+    second_early a.q a.h a.positions.now a.normals.now a.classes.now a.b.now fault.copy_fault-f.ensures c.before.if-f-ne0.true c.no_pair.ensures)
+    (λ c κs. omega (arith, (copies _ c.before.copy_fault-f.ensures c.if-f-ne0.false).size))
     (λ c. search rules)
     (λ c. let fine = c.before in
-    omega (arith, small _ fine.before.copy-fault.ensures fine.if1.false c.count_at.ensures.0))
+    omega (arith, small _ fine.before.copy_fault-f.ensures fine.if-f-ne0.false c.count_at-size.ensures.value))
     (λ c. let count = c.before in
     let fine = count.before in
-    sym (first_of_lem 1536 F.zero (omega (arith, small _ fine.before.copy-fault.ensures fine.if1.false count.count_at.ensures.0))))
+    sym (first_of_lem 1536 F.zero (omega (arith, small _ fine.before.copy_fault-f.ensures fine.if-f-ne0.false count.count_at-size.ensures.value))))
     (λ c. let count = c.before in
     let fine = count.before in
-    omega (arith, small _ fine.before.copy-fault.ensures fine.if1.false count.count_at.ensures.0))
+    omega (arith, small _ fine.before.copy_fault-f.ensures fine.if-f-ne0.false count.count_at-size.ensures.value))
     (λ c. let count = c.before.before in
     let fine = count.before in
-    sym (first_of_lem 1536 F.zero (omega (arith, small _ fine.before.copy-fault.ensures fine.if1.false count.count_at.ensures.0))))
+    sym (first_of_lem 1536 F.zero (omega (arith, small _ fine.before.copy_fault-f.ensures fine.if-f-ne0.false count.count_at-size.ensures.value))))
     (λ c κs. let count = c.before.before in
     let fine = count.before in
-    let fault = fine.before.copy-fault.ensures in
-    let few = small _ fault fine.if1.false count.count_at.ensures.0 in
-    arrays _ fault fine.if1.false count.count_at.ensures.0 (first_of_lem 1536 F.zero (omega arith)) (first_of_lem 1536 F.zero (omega arith)))
+    let fault = fine.before.copy_fault-f.ensures in
+    let few = small _ fault fine.if-f-ne0.false count.count_at-size.ensures.value in
+    arrays _ fault fine.if-f-ne0.false count.count_at-size.ensures.value (first_of_lem 1536 F.zero (omega arith)) (first_of_lem 1536 F.zero (omega arith)))
     (λ c. let copied = c.before.before in
     let fine = copied.before.before.before.before in
     let fault = fine.before in
     let a = fault.before.before.before.before.before.args in
-    second_late a.q a.h a.positions.now a.normals.now a.classes.now a.b.now fault.copy-fault.ensures fine.if1.false copied.copy-second.ensures))
+    second_late a.q a.h a.positions.now a.normals.now a.classes.now a.b.now fault.copy_fault-f.ensures fine.if-f-ne0.false copied.copy_second.ensures))

@@ -2,10 +2,10 @@ use borrow.Author.Rules.{rules}
 use Rattle.bytes_pair.proofs.compare.Statement.{statement}
 use Rattle.bytes_pair.proofs.compare.Tie as tie
 
-pub compare-spec : {M : Type 1} → statement M
-compare-spec =
+pub compare_spec : {M : Type 1} → statement M
+compare_spec =
     tie.close
     (tie.spec
     (λ c. search rules) (λ c κs. search rules) (λ c κs. search rules) (λ c. search rules) (λ c κs. search rules) (λ c κs. search rules)
-    (λ c. simp c.before.before.enum_told.given.1 (simp c.before.relate.ensures at c.related.ensures))
-    (λ c. simp c.before.before.enum-told2.given.1 (simp c.before.is-equivalent.ensures at c.answered.ensures)))
+    (λ c. simp c.before.before.enum_told-1.requires.1 (simp c.before.relate.ensures at c.related.ensures))
+    (λ c. simp c.before.before.enum_told-in-Equivalence-1.requires.1 (simp c.before.is_equivalent.ensures at c.answered.ensures)))

@@ -4,8 +4,8 @@ use borrow.Author.Rules.{rules}
 use Rattle.bytes_pair.proofs.copy_first.Statement.{statement}
 use Rattle.bytes_pair.proofs.copy_first.Tie as tie
 
-pub copy-first-spec : {M : Type 1} → statement M
-copy-first-spec =
+pub copy_first_spec : {M : Type 1} → statement M
+copy_first_spec =
     tie.close
     (tie.spec
     (λ c κs. search rules) (λ c κs. search rules) (λ c κs. search rules) (λ c. search rules) (λ c. search rules)
@@ -14,5 +14,5 @@ copy-first-spec =
     let read = header.before.before.before.before.before in
     let from = read.before.before.before in
     let start = from.before.before.before.before.before in
-    simp (header.header_at.ensures, read.read-vectors.ensures.0, read.read-vectors.ensures.1, classes_read start.args.a.now from.classes-from.ensures)
+    simp (header.header_at.ensures, read.read_vectors.ensures.positions_after, read.read_vectors.ensures.normals_after, classes_read start.args.a.now from.classes_from-from.ensures)
     at c.against.ensures))

@@ -8,23 +8,23 @@ use borrow.Author.Rules.{rules}
 use Rattle.bytes_pair.proofs.pair_floats.Statement.{statement}
 use Rattle.bytes_pair.proofs.pair_floats.Tie as tie
 
-pub pair-floats-spec : {M : Type 1} → statement M
-pair-floats-spec =
+pub pair_floats_spec : {M : Type 1} → statement M
+pair_floats_spec =
     tie.close
     (tie.spec
     (λ c κs. search rules) (λ c κs. search rules)
-    (λ c. gone_number _ c.before.before.header-fault.ensures c.before.if1.true c.refusal.ensures)
-    (λ c κs. omega (arith, header_size_lem _ (sym c.before.header-fault.ensures ∙ c.if1.false)))
+    (λ c. gone_number _ c.before.before.header_fault-f.ensures c.before.if-f-ne0.true c.refusal.ensures)
+    (λ c κs. omega (arith, header_size_lem _ (sym c.before.header_fault-f.ensures ∙ c.if-f-ne0.false)))
     (λ c κs. search rules) (λ c κs. search rules)
     (λ c. let second = c.before.before in
     let header = second.before in
     let fine = header.before in
     let first = fine.before in
     let a = first.before.before.before.before.before.before.before.before.before.args in
-    went_number _ first.header-fault.ensures fine.if1.false refl
+    went_number _ first.header_fault-f.ensures fine.if-f-ne0.false refl
     (other_wrong _ a.positions.now a.normals.now a.classes.now a.other.now a.others.now a.theirs.now a.codes.now
-    second.header-fault2.ensures c.before.if2.true (simp header.header_at.ensures at c.no-pair.ensures)))
-    (λ c κs. omega (arith, header_size_lem _ (sym c.before.header-fault2.ensures ∙ c.if2.false)))
+    second.header_fault-g.ensures c.before.if-g-ne0.true (simp header.header_at-h.ensures at c.no_pair.ensures)))
+    (λ c κs. omega (arith, header_size_lem _ (sym c.before.header_fault-g.ensures ∙ c.if-g-ne0.false)))
     (λ c κs. search rules)
     (λ c. let other = c.before in
     let second = other.before.before in
@@ -32,6 +32,6 @@ pair-floats-spec =
     let fine = header.before in
     let first = fine.before in
     let a = first.before.before.before.before.before.before.before.before.before.args in
-    went_number _ first.header-fault.ensures fine.if1.false refl
+    went_number _ first.header_fault-f.ensures fine.if-f-ne0.false refl
     (other_fine _ a.positions.now a.normals.now a.classes.now a.other.now a.others.now a.theirs.now a.codes.now
-    second.header-fault2.ensures other.before.if2.false other.header-at2.ensures (simp header.header_at.ensures at c.compare.ensures))))
+    second.header_fault-g.ensures other.before.if-g-ne0.false other.header_at-o.ensures (simp header.header_at-h.ensures at c.compare.ensures))))

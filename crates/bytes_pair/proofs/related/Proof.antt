@@ -2,10 +2,10 @@ use borrow.Author.Rules.{rules}
 use Rattle.bytes_pair.proofs.related.Statement.{statement}
 use Rattle.bytes_pair.proofs.related.Tie as tie
 
-pub related-spec : {M : Type 1} → statement M
-related-spec =
+pub related_spec : {M : Type 1} → statement M
+related_spec =
     tie.close
     (tie.spec
     (λ c. search rules) (λ c κs. search rules) (λ c. search rules) (λ c. search rules) (λ c. search rules) (λ c. search rules) (λ c. search rules) (λ c. search rules)
-    (λ c. simp (c.refusal.ensures, c.before.before.r.given.1))
+    (λ c. simp (c.refusal.ensures, c.before.before.r-1.requires.1))
     (λ c. search rules) (λ c. search rules) (λ c. search rules) (λ c. search rules) (λ c. search rules) (λ c. search rules))

@@ -5,10 +5,10 @@ use Rattle.bytes_scene.specs.Scene.{fitting}
 use Rattle.bytes_scene.proofs.fitting.Statement.{statement}
 use Rattle.bytes_scene.proofs.fitting.Tie as tie
 
-pub fitting-spec : {M : Type 1} → statement M
+pub fitting_spec : {M : Type 1} → statement M
 unfolding fitting
-fitting-spec =
+fitting_spec =
     tie.close
     (tie.spec
-    (λ c. (simp (lt-ltb _ _ c.if1.true), (omega arith, omega arith)))
-    (λ c. (simp (le-ltb _ _ c.if1.false), (omega arith, omega arith))))
+    (λ c. (simp (lt-ltb _ _ c.if-room-size.true), (omega arith, omega arith)))
+    (λ c. (simp (le-ltb _ _ c.if-room-size.false), (omega arith, omega arith))))

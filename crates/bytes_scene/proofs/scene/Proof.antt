@@ -8,17 +8,17 @@ use Rattle.bytes_scene.proofs.scene.Statement.{statement}
 use Rattle.bytes_scene.proofs.scene.Tie as tie
 
 -- no more is written than the work buffer holds
-within : tie.Need-array-share-prefix-text
+within : tie.Need-slice_bounds-text-end
 within c =
     let fit = c.before in
     let ran = fit.before.before.before in
-    omega (arith, fit.fitting.ensures.1.0, ran.run.ensures.1, ran.run.auto.1.0, ran.before.before.room.ensures)
+    omega (arith, fit.fitting-n.ensures.upper_bound.0, ran.run-size.ensures.upper_bound, ran.run-size.auto.1.0, ran.before.before.room-text.ensures)
 
-taken : tie.Need-slice-aggregate-put-bytes
+taken : tie.Need-slice_bounds-put_bytes-end
 taken c = sym (length-take-le _ _ (within c.before))
 
-fits : tie.Need-put-bytes-requires
-fits c κs = rw (length-take-le _ _ (within c.before)) (omega (arith, c.before.before.fitting.ensures.1.1))
+fits : tie.Need-put_bytes-requires
+fits c κs = rw (length-take-le _ _ (within c.before)) (omega (arith, c.before.before.fitting-n.ensures.upper_bound.1))
 
 returns : tie.Need-returns
 returns c =
@@ -26,10 +26,10 @@ returns c =
     let fit = put.before.before.before in
     let answer = fit.before in
     let ran = answer.before.before in
-    all_or_nothing _ _ _ ran.run.ensures.0 (omega (arith, ran.run.ensures.1, ran.before.before.room.ensures)) answer.size-answer.ensures fit.fitting.ensures.0 put.put-bytes.ensures
+    all_or_nothing _ _ _ ran.run-size.ensures.wrote (omega (arith, ran.run-size.ensures.upper_bound, ran.before.before.room-text.ensures)) answer.size_answer-answer.ensures fit.fitting-n.ensures.value put.put_bytes.ensures
 
-pub scene-spec : {M : Type 1} → statement M
-scene-spec =
+pub scene_spec : {M : Type 1} → statement M
+scene_spec =
     tie.close
     (tie.spec
     (λ c κs. search rules) (λ c. search rules) (λ c κs. search rules) (λ c κs. search rules) (λ c κs. search rules)

@@ -7,14 +7,14 @@ use Rattle.laws.proofs.Loops.{Iterate, iterate_begin, iterate_on}
 use Rattle.cap.proofs.farthest.Statement.{statement}
 use Rattle.cap.proofs.farthest.Tie as tie
 
-abbrev invariant-loop : tie.invariant-loop
+abbrev invariant-loop : tie.invariant-loop-i
 invariant-loop ps n centre most₀ i₀ most i = Iterate (farther ps centre) n i most (farthest_of ps n centre)
 
-abbrev decreases-loop : tie.decreases-loop
+abbrev decreases-loop : tie.decreases-loop-i
 decreases-loop ps n centre most₀ i₀ most i = n - i
 
-pub farthest-spec : {M : Type 1} → statement M
-farthest-spec =
+pub farthest_spec : {M : Type 1} → statement M
+farthest_spec =
     tie.close
     (tie.spec
     invariant-loop decreases-loop
@@ -24,5 +24,5 @@ farthest-spec =
     (λ c κs. search kit)
     (λ c. search kit)
     (λ c. search kit)
-    (λ c. iterate_on c.before.before.before.before.loop.invariant (simp (c.later-max.ensures, c.before.new.ensures, c.before.before.at.ensures)) (omega arith))
+    (λ c. iterate_on c.before.before.before.before.loop-i.invariant (simp (c.later_max-most.ensures, c.before.new.ensures, c.before.before.at.ensures)) (omega arith))
     (λ c. search kit))

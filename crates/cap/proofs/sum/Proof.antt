@@ -7,14 +7,14 @@ use Rattle.laws.proofs.Loops.{Iterate, iterate_begin, iterate_on}
 use Rattle.cap.proofs.sum.Statement.{statement}
 use Rattle.cap.proofs.sum.Tie as tie
 
-abbrev invariant-loop : tie.invariant-loop
+abbrev invariant-loop : tie.invariant-loop-i
 invariant-loop ps n s₀ i₀ s i = Iterate (plus_next ps) n i s (sum_of ps n)
 
-abbrev decreases-loop : tie.decreases-loop
+abbrev decreases-loop : tie.decreases-loop-i
 decreases-loop ps n s₀ i₀ s i = n - i
 
-pub sum-spec : {M : Type 1} → statement M
-sum-spec =
+pub sum_spec : {M : Type 1} → statement M
+sum_spec =
     tie.close
     (tie.spec
     invariant-loop decreases-loop
@@ -23,5 +23,5 @@ sum-spec =
     (λ c κs. search kit)
     (λ c. search kit)
     (λ c. search kit)
-    (λ c. iterate_on c.before.before.before.loop.invariant (simp (c.add.ensures, c.before.at.ensures)) (omega arith))
+    (λ c. iterate_on c.before.before.before.loop-i.invariant (simp (c.add-s.ensures, c.before.at.ensures)) (omega arith))
     (λ c. search kit))

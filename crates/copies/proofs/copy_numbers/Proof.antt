@@ -8,14 +8,14 @@ use Prim.Native.Nat.{◌-◌}
 use Rattle.copies.proofs.copy_numbers.Statement.{statement}
 use Rattle.copies.proofs.copy_numbers.Tie as tie
 
-abbrev invariant-loop : tie.invariant-loop
+abbrev invariant-loop : tie.invariant-loop-i
 invariant-loop numbers to₀ i₀ i-end to i = Fill 1 (one 0 numbers) (length numbers) i to₀ to
 
-abbrev decreases-loop : tie.decreases-loop
+abbrev decreases-loop : tie.decreases-loop-i
 decreases-loop numbers to₀ i₀ i-end to i = length numbers - i
 
-pub copy-numbers-spec : {M : Type 1} → statement M
-copy-numbers-spec =
+pub copy_numbers_spec : {M : Type 1} → statement M
+copy_numbers_spec =
     tie.close
     (tie.spec
     invariant-loop decreases-loop
@@ -26,6 +26,6 @@ copy-numbers-spec =
     (λ c. search kit)
     (λ c. search kit)
     (λ c. search kit)
-    (λ c. fill_on_one c.before.before.loop.invariant refl refl (search kit))
+    (λ c. fill_on_one c.before.before.loop-i.invariant refl refl (search kit))
     (λ c. search kit)
     (λ c. search kit))

@@ -4,9 +4,9 @@ use borrow.Author.Rules.{rules}
 use Rattle.icosahedron.proofs.position.Statement.{statement}
 use Rattle.icosahedron.proofs.position.Tie as tie
 
-pub position-spec : {M : Type 1} → statement M
+pub position_spec : {M : Type 1} → statement M
 unfolding positions
-position-spec =
+position_spec =
     tie.close
     (tie.spec
     (λ c. search rules) (λ c. search rules) (λ c. search rules) (λ c. search rules) (λ c. search rules)

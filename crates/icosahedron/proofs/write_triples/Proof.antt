@@ -8,15 +8,15 @@ use Prim.Native.Nat.{◌-◌}
 use Rattle.icosahedron.proofs.write_triples.Statement.{statement}
 use Rattle.icosahedron.proofs.write_triples.Tie as tie
 
-abbrev invariant-loop : tie.invariant-loop
+abbrev invariant-loop : tie.invariant-loop-k
 invariant-loop out₀ k₀ out k = Fill 1 (one 0 triples) 60 k out₀ out
 
-abbrev decreases-loop : tie.decreases-loop
+abbrev decreases-loop : tie.decreases-loop-k
 decreases-loop out₀ k₀ out k = 60 - k
 
-pub write-triples-spec : {M : Type 1} → statement M
+pub write_triples_spec : {M : Type 1} → statement M
 unfolding triples
-write-triples-spec =
+write_triples_spec =
     tie.close
     (tie.spec
     invariant-loop decreases-loop
@@ -27,6 +27,6 @@ write-triples-spec =
     (λ c. search rules)
     (λ c. search rules)
     (λ c. search rules)
-    (λ c. fill_on_one c.before.loop.invariant refl refl (omega arith))
+    (λ c. fill_on_one c.before.loop-k.invariant refl refl (omega arith))
     (λ c. search rules)
-    (λ c. copy_end 0 triples _ _ _ c.before.loop.invariant (omega arith)))
+    (λ c. copy_end 0 triples _ _ _ c.before.loop-k.invariant (omega arith)))

@@ -15,14 +15,14 @@ fits c =
     let small : Fits w64 (nat_abs c.args.got) = record { fits = lt_of_le_of_lt (nat_abs-le c.args.got c.ranges.got.sfits) (lit< tt) } in
     subst (λ (z : ℤ). Fits w64 (nat_abs z)) (sym (read_back c.ranges.got)) small
 
-returns : tie.Need-returns
-returns c = none _ (negative (read_back c.before.ranges.got) c.if1.true)
+returns : tie.Need-returns-then-got-lt0
+returns c = none _ (negative (read_back c.before.ranges.got) c.if-got-lt0.true)
 
-cast-result : tie.Need-overflow-cast-result
-cast-result c = (yes_non_neg {z = to_z w64 (of_z w64 c.before.args.got)} (other refl c.if1.false), fits c.before)
+cast-result : tie.Need-overflow_cast-result
+cast-result c = (yes_non_neg {z = to_z w64 (of_z w64 c.before.args.got)} (other refl c.if-got-lt0.false), fits c.before)
 
-returns-2 : tie.Need-returns-2
-returns-2 c = let back = read_back c.before.ranges.got in ap nat_abs back ∙ some _ (other back c.if1.false)
+returns-2 : tie.Need-returns
+returns-2 c = let back = read_back c.before.ranges.got in ap nat_abs back ∙ some _ (other back c.if-got-lt0.false)
 
 pub count_spec : {M : Type 1} → statement M
 count_spec = tie.close (tie.spec returns cast-result returns-2)

@@ -3,11 +3,11 @@ use Rattle.input.proofs.ended.Statement.{statement}
 use Rattle.input.proofs.ended.Tie as tie
 use Rattle.input.proofs.Answers.{read_back, negative, other, failed, over}
 
-returns : tie.Need-returns
-returns c = failed _ _ (negative (read_back c.before.ranges.got) c.if1.true)
+returns : tie.Need-returns-then-got-lt0
+returns c = failed _ _ (negative (read_back c.before.ranges.got) c.if-got-lt0.true)
 
-returns-2 : tie.Need-returns-2
-returns-2 c = over _ _ (other (read_back c.before.ranges.got) c.if1.false)
+returns-2 : tie.Need-returns
+returns-2 c = over _ _ (other (read_back c.before.ranges.got) c.if-got-lt0.false)
 
-pub ended-spec : {M : Type 1} → statement M
-ended-spec = tie.close (tie.spec returns returns-2)
+pub ended_spec : {M : Type 1} → statement M
+ended_spec = tie.close (tie.spec returns returns-2)

@@ -4,11 +4,11 @@ use borrow.Author.Rules.{rules}
 use Rattle.judge.proofs.fault.Statement.{statement}
 use Rattle.judge.proofs.fault.Tie as tie
 
-pub fault-spec : {M : Type 1} → statement M
-fault-spec =
+pub fault_spec : {M : Type 1} → statement M
+fault_spec =
     tie.close
     (tie.spec
     (λ c κs. search rules)
-    (λ c. sym (within_fault _ (rw c.before.squared-norm.ensures at c.if1.true)))
+    (λ c. sym (within_fault _ (rw c.before.squared_norm-d.ensures at c.if-d.true)))
     (λ c κs. search rules)
-    (λ c. c.off-range.ensures ∙ sym (off_fault _ (rw c.before.before.squared-norm.ensures at c.before.if1.false))))
+    (λ c. c.off_range.ensures ∙ sym (off_fault _ (rw c.before.before.squared_norm-d.ensures at c.before.if-d.false))))

@@ -9,4 +9,4 @@ first_spec =
     tie.close
     (tie.spec
     (λ c. search rules)
-    (λ c. sym (first_hit _ _ c.if1.false)))
+    (λ c. sym (first_hit _ _ c.if-a-eq0.false)))

@@ -15,30 +15,30 @@ use Rattle.judge.proofs.first_refused.Tie as tie
 above : {n : ℕ} → (n ≡ 0 → ⊥) → ltb 0 n ≡ true
 above {n} h = lt-ltb 0 n (omega (arith, h))
 
-abbrev invariant-loop : tie.invariant-loop
+abbrev invariant-loop : tie.invariant-loop-i
 invariant-loop ps n i₀ i = Look (is_refused ps) n i (first_refused ps n)
 
-abbrev decreases-loop : tie.decreases-loop
+abbrev decreases-loop : tie.decreases-loop-i
 decreases-loop ps n i₀ i = n - i
 
-loop-holds : tie.Need-loop-init invariant-loop decreases-loop
+loop-holds : tie.Need-loop-i-init invariant-loop decreases-loop
 unfolding first_refused
 loop-holds c = look
 
-returns-found : tie.Need-returns invariant-loop decreases-loop
+returns-found : tie.Need-returns-then-fault-ne0 invariant-loop decreases-loop
 returns-found c =
     let asked = c.before in
-    let looked = asked.before.before.before.loop.invariant in
-    (look_hit looked (ap (ltb 0) (asked.fault.ensures ∙ ap fault_of asked.before.at.ensures)) asked.before.before.loop-test.true (above c.if1.true), looked.within)
+    let looked = asked.before.before.before.loop-i.invariant in
+    (look_hit looked (ap (ltb 0) (asked.fault.ensures ∙ ap fault_of asked.before.at.ensures)) asked.before.before.loop-i-test.true (above c.if-fault-ne0.true), looked.within)
 
-loop-again : tie.Need-loop-preserved invariant-loop decreases-loop
+loop-again : tie.Need-loop-i-preserved invariant-loop decreases-loop
 loop-again c =
     let asked = c.before in
-    let looked = asked.before.before.before.loop.invariant in
-    look_on looked (ap (ltb 0) (asked.fault.ensures ∙ ap fault_of asked.before.at.ensures)) asked.before.before.loop-test.true (rw c.if1.false refl)
+    let looked = asked.before.before.before.loop-i.invariant in
+    look_on looked (ap (ltb 0) (asked.fault.ensures ∙ ap fault_of asked.before.at.ensures)) asked.before.before.loop-i-test.true (rw c.if-fault-ne0.false refl)
 
-pub first-refused-spec : {M : Type 1} → statement M
-first-refused-spec =
+pub first_refused_spec : {M : Type 1} → statement M
+first_refused_spec =
     tie.close
     (tie.spec
     invariant-loop decreases-loop
@@ -49,4 +49,4 @@ first-refused-spec =
     (λ c. search kit)
     (λ c. search kit)
     loop-again
-    (λ c. (look_end c.before.loop.invariant c.loop-test.false, search kit)))
+    (λ c. (look_end c.before.loop-i.invariant c.loop-i-test.false, search kit)))

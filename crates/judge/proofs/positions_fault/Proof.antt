@@ -6,17 +6,17 @@ use Rattle.judge.proofs.Refused.{none_refused, one_refused}
 use Rattle.judge.proofs.positions_fault.Statement.{statement}
 use Rattle.judge.proofs.positions_fault.Tie as tie
 
-returns-number : tie.Need-returns-2
+returns-number : tie.Need-returns
 returns-number c =
     let found = c.before.before in
-    one_refused _ _ found.before.first-refused.ensures.0 found.if1.false (c.fault.ensures ∙ ap fault_of c.before.at.ensures)
+    one_refused _ _ found.before.first_refused-i.ensures.value found.if-n-i.false (c.fault.ensures ∙ ap fault_of c.before.at.ensures)
 
-pub positions-fault-spec : {M : Type 1} → statement M
-positions-fault-spec =
+pub positions_fault_spec : {M : Type 1} → statement M
+positions_fault_spec =
     tie.close
     (tie.spec
     (λ c κs. search rules)
-    (λ c. none_refused _ _ c.before.first-refused.ensures.0 c.if1.true)
+    (λ c. none_refused _ _ c.before.first_refused-i.ensures.value c.if-n-i.true)
     (λ c κs. search rules)
     (λ c κs. search rules)
     returns-number)

@@ -7,22 +7,22 @@ use Prim.Native.Nat.{◌-◌}
 use Rattle.judge.proofs.vectors_fault.Statement.{statement}
 use Rattle.judge.proofs.vectors_fault.Tie as tie
 
-abbrev invariant-loop : tie.invariant-loop
+abbrev invariant-loop : tie.invariant-loop-i
 invariant-loop ns n i₀ i = Seek (normal_fault ns) n i (vectors_fault ns n)
 
-abbrev decreases-loop : tie.decreases-loop
+abbrev decreases-loop : tie.decreases-loop-i
 decreases-loop ns n i₀ i = n - i
 
-pub vectors-fault-spec : {M : Type 1} → statement M
-vectors-fault-spec =
+pub vectors_fault_spec : {M : Type 1} → statement M
+vectors_fault_spec =
     tie.close
     (tie.spec
     invariant-loop decreases-loop
     (λ c. seek refl)
     (λ c κs. search kit)
     (λ c κs. search kit)
-    (λ c. seek_found c.before.before.before.before.loop.invariant (cc) (omega arith) c.if1.true)
+    (λ c. seek_found c.before.before.before.before.loop-i.invariant (cc) (omega arith) c.if-f-ne0.true)
     (λ c. search kit)
     (λ c. search kit)
-    (λ c. seek_on c.before.before.before.before.loop.invariant (cc) (omega arith) c.if1.false)
+    (λ c. seek_on c.before.before.before.before.loop-i.invariant (cc) (omega arith) c.if-f-ne0.false)
     (λ c. search kit))

@@ -6,14 +6,14 @@ use borrow.Author.Rules.{rules}
 use Rattle.loop_ask.proofs.is_simple.Statement.{statement}
 use Rattle.loop_ask.proofs.is_simple.Tie as tie
 
-pub is-simple-spec : {M : Type 1} → statement M
+pub is_simple_spec : {M : Type 1} → statement M
 unfolding simple_answer
-is-simple-spec =
+is_simple_spec =
     tie.close
     (tie.spec
     (λ c κs. search rules)
-    (λ c. rw (← c.before.loop-fault.ensures) (was_refused _ _ c.if1.true))
-    (λ c κs. let s = loop_sizes _ _ _ _ c.before.loop-fault.ensures c.if1.false in
+    (λ c. rw (← c.before.loop_fault-f.ensures) (was_refused _ _ c.if-f-ne0.true))
+    (λ c κs. let s = loop_sizes _ _ _ _ c.before.loop_fault-f.ensures c.if-f-ne0.false in
     omega (arith, s.most, s.positions, s.normals))
     (λ c κs. search rules)
-    (λ c. rw (← c.before.before.before.loop-fault.ensures) (c.tell.ensures ∙ simp c.before.is-simple.ensures (was_fine _ c.before.before.if1.false))))
+    (λ c. rw (← c.before.before.before.loop_fault-f.ensures) (c.tell.ensures ∙ simp c.before.is_simple.ensures (was_fine _ c.before.before.if-f-ne0.false))))

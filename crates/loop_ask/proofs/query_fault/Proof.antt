@@ -3,10 +3,10 @@ use borrow.Author.Rules.{rules}
 use Rattle.loop_ask.proofs.query_fault.Statement.{statement}
 use Rattle.loop_ask.proofs.query_fault.Tie as tie
 
-pub query-fault-spec : {M : Type 1} → statement M
+pub query_fault_spec : {M : Type 1} → statement M
 unfolding query_fault
-query-fault-spec =
+query_fault_spec =
     tie.close
     (tie.spec
     (λ c κs. search rules) (λ c κs. search rules) (λ c κs. search rules)
-    (λ c. simp (c.first.ensures, c.before.fault.ensures, c.before.before.loop-fault.ensures)))
+    (λ c. simp (c.first.ensures, c.before.fault.ensures, c.before.before.loop_fault.ensures)))

@@ -5,29 +5,29 @@ use Rattle.loop_build.proofs.make.Statement.{statement}
 use Rattle.loop_build.proofs.make.Tie as tie
 
 -- From where `all_both` is done back to where `prepare` is.
-abbrev prepared-of : tie.After-all-both → tie.After-prepare
+abbrev prepared-of : tie.After-all_both → tie.After-prepare-sum
 prepared-of c = c.before.before.before.before.before.before
 
 -- From where `prepare` is done back to the start.
-abbrev start_of : tie.After-prepare → tie.Start
+abbrev start_of : tie.After-prepare-sum → tie.Start
 start_of c = c.before.before.before.before.before.before.before.before.before
 
-returns : tie.Need-returns
+returns : tie.Need-returns-then-all_both
 returns c =
     let weak = c.before in
     let chosen = weak.before in
     let asked = chosen.before in
     full_made
     _ _ (prepared-of asked).prepare.ensures _ _ _ _
-    asked.all_both.ensures chosen.if1.true weak.is-weak.ensures c.full.ensures
+    asked.all_both.ensures chosen.if-all_both.true weak.is_weak.ensures c.full.ensures
 
-write-ring-requires : tie.Need-write-ring-requires
+write-ring-requires : tie.Need-write_ring-insides-requires
 write-ring-requires c κs =
     let turned = c.before.before.before.before.before in
     let prepared = prepared-of turned.before.before in
-    ready _ _ prepared.prepare.ensures (start_of prepared).pre turned.is-clockwise.ensures
+    ready _ _ prepared.prepare-sum.ensures (start_of prepared).pre turned.is_clockwise-reversed.ensures
 
-returns-2 : tie.Need-returns-2
+returns-2 : tie.Need-returns
 returns-2 c =
     let capped = c.before in
     let written = capped.before.before.before.before.before.before.before in
@@ -36,8 +36,8 @@ returns-2 c =
     let asked = chosen.before in
     ring_made_lem
     _ _ (prepared-of asked).prepare.ensures _ _ _ _
-    asked.all_both.ensures chosen.if1.false turned.is-clockwise.ensures
-    written.write-ring.ensures capped.bounding-cap.ensures c.is-weak2.ensures
+    asked.all_both.ensures chosen.if-all_both.false turned.is_clockwise-reversed.ensures
+    written.write_ring-insides.ensures capped.bounding_cap.ensures c.is_weak-2.ensures
 
 pub make_spec : {M : Type 1} → statement M
 make_spec =

@@ -7,8 +7,8 @@ use borrow.Author.Rules.{rules}
 use Rattle.loop_build.proofs.make_large.Statement.{statement}
 use Rattle.loop_build.proofs.make_large.Tie as tie
 
-pub make-large-spec : {M : Type 1} → statement M
-make-large-spec =
+pub make_large_spec : {M : Type 1} → statement M
+make_large_spec =
     tie.close
     (tie.spec
     (λ c. let p = c.before.before.before.before.requires in omega (arith, p.most))

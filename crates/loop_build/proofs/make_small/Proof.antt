@@ -7,8 +7,8 @@ use borrow.Author.Rules.{rules}
 use Rattle.loop_build.proofs.make_small.Statement.{statement}
 use Rattle.loop_build.proofs.make_small.Tie as tie
 
-pub make-small-spec : {M : Type 1} → statement M
-make-small-spec =
+pub make_small_spec : {M : Type 1} → statement M
+make_small_spec =
     tie.close
     (tie.spec
     (λ c. let p = c.before.before.before.before.requires in omega (arith, p.1))

@@ -11,10 +11,10 @@ returns c =
     let turned = classed.before.before in
     let summed = turned.before.before in
     let edged = summed.before.before.before.before in
-    simp (classed.write-classes.ensures, turned.is-clockwise.ensures, summed.turn-sum.ensures, edged.write-edge-normals.ensures)
+    simp (classed.write_classes.ensures, turned.is_clockwise.ensures, summed.turn_sum-sum.ensures, edged.write_edge_normals.ensures)
 
-pub prepare-spec : {M : Type 1} → statement M
-prepare-spec =
+pub prepare_spec : {M : Type 1} → statement M
+prepare_spec =
     tie.close
     (tie.spec
     (λ c κs. search rules) (λ c κs. search rules) (λ c κs. search rules) (λ c κs. search rules)

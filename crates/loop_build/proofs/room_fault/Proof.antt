@@ -4,11 +4,11 @@ use borrow.Author.Rules.{rules}
 use Rattle.loop_build.proofs.room_fault.Statement.{statement}
 use Rattle.loop_build.proofs.room_fault.Tie as tie
 
-pub room-fault-spec : {M : Type 1} → statement M
+pub room_fault_spec : {M : Type 1} → statement M
 unfolding room_fault
-room-fault-spec =
+room_fault_spec =
     tie.close
     (tie.spec
     (λ c. search rules) (λ c. search rules)
-    (λ c. simp c.if1.true)
-    (λ c. simp c.if1.false))
+    (λ c. simp c.if-n-short.true)
+    (λ c. simp c.if-n-short.false))

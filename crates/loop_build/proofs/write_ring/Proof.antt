@@ -7,31 +7,31 @@ use Rattle.loop_build.proofs.write_ring.Statement.{statement}
 use Rattle.loop_build.proofs.write_ring.Tie as tie
 
 -- From where the corners are written back to the start.
-abbrev start_of : tie.After-write-corners → tie.Start
+abbrev start_of : tie.After-write_corners → tie.Start
 start_of c = c.before.before.before.before.before.before.before.before
 
 -- From where the normals are written back to where the corners are.
-abbrev corners-of : tie.After-write-normals → tie.After-write-corners
+abbrev corners-of : tie.After-write_normals → tie.After-write_corners
 corners-of c = c.before.before.before.before
 
 -- From where the classes are written back to where the normals are.
-abbrev normals-of : tie.After-copy-classes → tie.After-write-normals
+abbrev normals-of : tie.After-copy_classes → tie.After-write_normals
 normals-of c = c.before.before.before.before
 
-copy-classes-requires : tie.Need-copy-classes-requires
+copy-classes-requires : tie.Need-copy_classes-requires
 copy-classes-requires c κs =
     let given = (start_of (corners-of c.before.before.before)).pre in
     omega (arith, codes_size given, given.classes_room)
 
-slice-aggregate-insides-of : tie.Need-slice-aggregate-insides-of
+slice-aggregate-insides-of : tie.Need-slice_bounds-insides_of-end-2
 slice-aggregate-insides-of c =
     let cornered = corners-of (normals-of c.before.before.before) in
-    sym (front_size (start_of cornered).pre _ cornered.write-corners.ensures)
+    sym (front_size (start_of cornered).pre _ cornered.write_corners.ensures)
 
-insides-of-requires : tie.Need-insides-of-requires
+insides-of-requires : tie.Need-insides_of-requires
 insides-of-requires c κs =
     let cornered = corners-of (normals-of c.before.before.before) in
-    is_ring (start_of cornered).pre _ cornered.write-corners.ensures
+    is_ring (start_of cornered).pre _ cornered.write_corners.ensures
 
 returns : tie.Need-returns
 returns c =
@@ -40,10 +40,10 @@ returns c =
     let cornered = corners-of normalled in
     all_written
     (start_of cornered).pre _ _ _
-    c.insides-of.ensures cornered.write-corners.ensures normalled.write-normals.ensures classed.copy-classes.ensures
+    c.insides_of.ensures cornered.write_corners.ensures normalled.write_normals.ensures classed.copy_classes.ensures
 
-pub write-ring-spec : {M : Type 1} → statement M
-write-ring-spec =
+pub write_ring_spec : {M : Type 1} → statement M
+write_ring_spec =
     tie.close
     (tie.spec
     (λ c κs. search rules) (λ c κs. search rules)

@@ -3,15 +3,15 @@ use Rattle.loop_distances.specs.Distances.{by_foot}
 use Rattle.loop_distances.proofs.by_foot.Statement.{statement}
 use Rattle.loop_distances.proofs.by_foot.Tie as tie
 
-pub by-foot-spec : {M : Type 1} → statement M
+pub by_foot_spec : {M : Type 1} → statement M
 unfolding by_foot
-by-foot-spec =
+by_foot_spec =
     tie.close
     (tie.spec
     (λ c κs. tt) (λ c κs. tt) (λ c κs. tt) (λ c κs. tt)
     (λ c. let on = c.before in
-    let h = simp (on.before.is_Within.ensures, on.before.before.location.ensures) at on.if1.true in
+    let h = simp (on.before.is_Within.ensures, on.before.before.location.ensures) at on.if-is_within.true in
     simp (h) c.new.ensures)
     (λ c. let off = c.before in
-    let h = simp (off.before.is_Within.ensures, off.before.before.location.ensures) at off.if1.false in
-    simp (h) c.nearer-end.ensures))
+    let h = simp (off.before.is_Within.ensures, off.before.before.location.ensures) at off.if-is_within.false in
+    simp (h) c.nearer_end.ensures))

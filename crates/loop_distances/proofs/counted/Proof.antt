@@ -7,4 +7,4 @@ pub counted_spec : {M : Type 1} → statement M
 counted_spec =
     tie.close
     (tie.spec
-    (λ c. search rules) (λ c. simp c.if1.true) (λ c. simp c.if1.false))
+    (λ c. search rules) (λ c. simp c.if-settled.true) (λ c. simp c.if-settled.false))

@@ -4,16 +4,16 @@ use Rattle.loop_distances.specs.Distances.{arc_told}
 use Rattle.loop_distances.proofs.distance_to.Statement.{statement}
 use Rattle.loop_distances.proofs.distance_to.Tie as tie
 
-pub distance-to-spec : {M : Type 1} → statement M
+pub distance_to_spec : {M : Type 1} → statement M
 unfolding arc_told
-distance-to-spec =
+distance_to_spec =
     tie.close
     (tie.spec
     (λ c κs. tt) (λ c κs. tt) (λ c κs. tt)
     (λ c. let q = c.before in
-    judged_hit _ (simp (q.before.before.clear-arc.ensures, q.before.clear.ensures) at q.query-fault.ensures) c.if1.true)
+    judged_hit _ (simp (q.before.before.clear_arc-arc.ensures, q.before.clear-q.ensures) at q.query_fault-f.ensures) c.if-f-ne0.true)
     (λ c κs. tt)
     (λ c. let q = c.before.before in
     let read = q.before in
-    judged_none _ (simp (read.before.clear-arc.ensures, read.clear.ensures) at q.query-fault.ensures) c.before.if1.false
-    (simp (c.far-arc.ensures, read.before.clear-arc.ensures, read.clear.ensures))))
+    judged_none _ (simp (read.before.clear_arc-arc.ensures, read.clear-q.ensures) at q.query_fault-f.ensures) c.before.if-f-ne0.false
+    (simp (c.far_arc.ensures, read.before.clear_arc-arc.ensures, read.clear-q.ensures))))

@@ -3,17 +3,17 @@ use Rattle.loop_distances.specs.Distances.{far_arc}
 use Rattle.loop_distances.proofs.far_arc.Statement.{statement}
 use Rattle.loop_distances.proofs.far_arc.Tie as tie
 
-past-end-lem : tie.Need-returns
+past-end-lem : tie.Need-returns-then-start-end
 unfolding far_arc
 past-end-lem c =
     let known = c.before.before in
     let side = known.before.before.before in
     let end = side.before in
     let start = end.before in
-    let past = simp (side.new3.ensures, end.new2.ensures, start.new.ensures) at c.before.if1.true in
-    simp (past, c.least.ensures, end.new2.ensures, start.new.ensures)
+    let past = simp (side.new-side.ensures, end.new-end.ensures, start.new-start.ensures) at c.before.if-start-end.true in
+    simp (past, c.least.ensures, end.new-end.ensures, start.new-start.ensures)
 
-at-pole : tie.Need-returns-2
+at-pole : tie.Need-returns-then-equals
 unfolding far_arc
 at-pole c =
     let same = c.before in
@@ -22,11 +22,11 @@ at-pole c =
     let side = other.before.before.before.before in
     let end = side.before in
     let start = end.before in
-    let past = simp (side.new3.ensures, end.new2.ensures, start.new.ensures) at other.if1.false in
-    let pole = simp (same.equals.ensures, across.stable-cross-prod-unit.ensures) at c.if2.true in
-    simp (past, pole, start.new.ensures)
+    let past = simp (side.new-side.ensures, end.new-end.ensures, start.new-start.ensures) at other.if-start-end.false in
+    let pole = simp (same.equals.ensures, across.stable_cross_prod_unit-across.ensures) at c.if-equals.true in
+    simp (past, pole, start.new-start.ensures)
 
-by-foot : tie.Need-returns-3
+by-foot : tie.Need-returns
 unfolding far_arc
 by-foot c =
     let foot = c.before in
@@ -37,12 +37,12 @@ by-foot c =
     let side = other.before.before.before.before in
     let end = side.before in
     let start = end.before in
-    let past = simp (side.new3.ensures, end.new2.ensures, start.new.ensures) at other.if1.false in
-    let pole = simp (same.equals.ensures, across.stable-cross-prod-unit.ensures) at apart.if2.false in
-    simp (past, pole, c.by-foot.ensures, foot.orthogonal-to.ensures, across.stable-cross-prod-unit.ensures)
+    let past = simp (side.new-side.ensures, end.new-end.ensures, start.new-start.ensures) at other.if-start-end.false in
+    let pole = simp (same.equals.ensures, across.stable_cross_prod_unit-across.ensures) at apart.if-equals.false in
+    simp (past, pole, c.by_foot.ensures, foot.orthogonal_to.ensures, across.stable_cross_prod_unit-across.ensures)
 
-pub far-arc-spec : {M : Type 1} → statement M
-far-arc-spec =
+pub far_arc_spec : {M : Type 1} → statement M
+far_arc_spec =
     tie.close
     (tie.spec
     (λ c κs. tt) (λ c κs. tt) (λ c κs. tt) (λ c κs. tt)

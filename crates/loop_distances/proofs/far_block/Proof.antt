@@ -6,10 +6,10 @@ use Rattle.loop_distances.proofs.Parted.{passed_few, passed_below, passed_least}
 use Rattle.loop_distances.proofs.far_block.Statement.{statement}
 use Rattle.loop_distances.proofs.far_block.Tie as tie
 
-far-listed-requires : tie.Need-far-listed-requires
+far-listed-requires : tie.Need-far_listed-requires
 far-listed-requires c κs =
     let settle = c.before.before in
-    let passed = settle.settle.ensures in
+    let passed = settle.settle-s.ensures in
     let pre = settle.before.before.before.before.requires in
     (pre.3, passed_below passed pre.0 pre.2, omega (arith, passed_few passed, passed.few, pre.1))
 
@@ -17,15 +17,15 @@ returns : tie.Need-returns
 returns c =
     let settle = c.before.before.before in
     let pre = settle.before.before.before.before.requires in
-    passed_least settle.settle.ensures pre.4 pre.0 pre.2 pre.5 c.far-listed.ensures
+    passed_least settle.settle-s.ensures pre.4 pre.0 pre.2 pre.5 c.far_listed.ensures
 
-pub far-block-spec : {M : Type 1} → statement M
-far-block-spec =
+pub far_block_spec : {M : Type 1} → statement M
+far_block_spec =
     tie.close
     (tie.spec
     (λ c. search rules)
     (λ c κs. search rules)
     (λ c. search rules)
-    (λ c. sym (passed_few c.before.before.settle.ensures))
+    (λ c. sym (passed_few c.before.before.settle-s.ensures))
     far-listed-requires
     returns)

@@ -7,8 +7,8 @@ use Rattle.laws.proofs.Copies.{first_of_lem}
 use Rattle.loop_distances.proofs.far_few.Statement.{statement}
 use Rattle.loop_distances.proofs.far_few.Tie as tie
 
-pub far-few-spec : {M : Type 1} → statement M
-far-few-spec =
+pub far_few_spec : {M : Type 1} → statement M
+far_few_spec =
     tie.close
     (tie.spec
     (λ c. search rules)

@@ -3,11 +3,11 @@ use borrow.Author.Rules.{rules}
 use Rattle.loop_distances.proofs.far_listed.Statement.{statement}
 use Rattle.loop_distances.proofs.far_listed.Tie as tie
 
-pub far-listed-spec : {M : Type 1} → statement M
-far-listed-spec =
+pub far_listed_spec : {M : Type 1} → statement M
+far_listed_spec =
     tie.close
     (tie.spec
     (λ c κs. search rules)
-    (λ c. c.far-few.ensures)
+    (λ c. c.far_few.ensures)
     (λ c κs. search rules)
-    (λ c. c.far-many.ensures))
+    (λ c. c.far_many.ensures))

@@ -7,8 +7,8 @@ use Rattle.laws.proofs.Copies.{first_of_lem}
 use Rattle.loop_distances.proofs.far_many.Statement.{statement}
 use Rattle.loop_distances.proofs.far_many.Tie as tie
 
-pub far-many-spec : {M : Type 1} → statement M
-far-many-spec =
+pub far_many_spec : {M : Type 1} → statement M
+far_many_spec =
     tie.close
     (tie.spec
     (λ c. search rules)

@@ -13,15 +13,15 @@ and-false : (b : Bool) → false ≡ b && false
 and-false true = refl
 and-false false = refl
 
-pub is-surely-off-spec : {M : Type 1} → statement M
-is-surely-off-spec =
+pub is_surely_off_spec : {M : Type 1} → statement M
+is_surely_off_spec =
     tie.close
     (tie.spec
     (λ c κs. tt) (λ c κs. tt) (λ c κs. tt)
     (λ c. let tame = c.before in
     let test = tame.before in
-    let h = simp test.before.is-beyond.ensures at test.if1.true in
-    simp (h, c.is-upright.ensures, tame.is-tame.ensures) (and-true _))
-    (λ c. let h = simp c.before.is-beyond.ensures at c.if1.false in
+    let h = simp test.before.is_beyond.ensures at test.if-is_beyond.true in
+    simp (h, c.is_upright.ensures, tame.is_tame.ensures) (and-true _))
+    (λ c. let h = simp c.before.is_beyond.ensures at c.if-is_beyond.false in
     let a = c.before.before.args.a in
     simp (h) (and-false (tame a.normal && upright a))))

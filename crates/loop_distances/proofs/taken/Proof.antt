@@ -2,10 +2,10 @@
 use Rattle.loop_distances.proofs.taken.Statement.{statement}
 use Rattle.loop_distances.proofs.taken.Tie as tie
 
-pub taken-spec : {M : Type 1} → statement M
-taken-spec =
+pub taken_spec : {M : Type 1} → statement M
+taken_spec =
     tie.close
     (tie.spec
     (λ c κs. tt)
-    (λ c. simp c.before.if1.true c.least.ensures)
-    (λ c. simp c.if1.false))
+    (λ c. simp c.before.if-settled.true c.least.ensures)
+    (λ c. simp c.if-settled.false))

@@ -10,14 +10,14 @@ use Rattle.loop_distances.specs.Blocks.{across_product}
 use Rattle.loop_distances.proofs.write_across.Statement.{statement}
 use Rattle.loop_distances.proofs.write_across.Tie as tie
 
-abbrev invariant-loop : tie.invariant-loop
+abbrev invariant-loop : tie.invariant-loop-j
 invariant-loop p normals listed out₀ j₀ j-end out j = Fill 3 (λ i. coords (across_product p normals listed i)) (length listed) j out₀ out × (length out₀ ≡ 3 * length listed)
 
-abbrev decreases-loop : tie.decreases-loop
+abbrev decreases-loop : tie.decreases-loop-j
 decreases-loop p normals listed out₀ j₀ j-end out j = length listed - j
 
-pub write-across-spec : {M : Type 1} → statement M
-write-across-spec =
+pub write_across_spec : {M : Type 1} → statement M
+write_across_spec =
     tie.close
     (tie.spec
     invariant-loop decreases-loop
@@ -32,7 +32,7 @@ write-across-spec =
     (λ c. let put = c.before.before in
     let product = put.before in
     let normal = product.before in
-    let l = normal.before.before.before.before.loop in
-    (fill_on l.invariant.0 (simp (put.put.ensures, product.stable-cross-prod.ensures, normal.at.ensures)) (omega arith), l.invariant.1))
+    let l = normal.before.before.before.before.loop-j in
+    (fill_on l.invariant.0 (simp (put.put.ensures, product.stable_cross_prod.ensures, normal.at.ensures)) (omega arith), l.invariant.1))
     (λ c. search rules)
-    (λ c. fill_all c.before.loop.invariant.0 (omega arith) c.before.loop.invariant.1))
+    (λ c. fill_all c.before.loop-j.invariant.0 (omega arith) c.before.loop-j.invariant.1))

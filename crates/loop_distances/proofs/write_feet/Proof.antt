@@ -10,14 +10,14 @@ use Rattle.loop_distances.specs.Blocks.{foot_product}
 use Rattle.loop_distances.proofs.write_feet.Statement.{statement}
 use Rattle.loop_distances.proofs.write_feet.Tie as tie
 
-abbrev invariant-loop : tie.invariant-loop
+abbrev invariant-loop : tie.invariant-loop-j
 invariant-loop normals listed across out₀ j₀ j-end out j = Fill 3 (λ i. coords (foot_product normals listed across i)) (length listed) j out₀ out × (length out₀ ≡ 3 * length listed)
 
-abbrev decreases-loop : tie.decreases-loop
+abbrev decreases-loop : tie.decreases-loop-j
 decreases-loop normals listed across out₀ j₀ j-end out j = length listed - j
 
-pub write-feet-spec : {M : Type 1} → statement M
-write-feet-spec =
+pub write_feet_spec : {M : Type 1} → statement M
+write_feet_spec =
     tie.close
     (tie.spec
     invariant-loop decreases-loop
@@ -34,7 +34,7 @@ write-feet-spec =
     let product = put.before in
     let unit = product.before in
     let normal = unit.before in
-    let l = normal.before.before.before.before.loop in
-    (fill_on l.invariant.0 (simp (put.put.ensures, product.stable-cross-prod.ensures, unit.raw.ensures, normal.at.ensures)) (omega arith), l.invariant.1))
+    let l = normal.before.before.before.before.loop-j in
+    (fill_on l.invariant.0 (simp (put.put.ensures, product.stable_cross_prod.ensures, unit.raw.ensures, normal.at.ensures)) (omega arith), l.invariant.1))
     (λ c. search rules)
-    (λ c. fill_all c.before.loop.invariant.0 (omega arith) c.before.loop.invariant.1))
+    (λ c. fill_all c.before.loop-j.invariant.0 (omega arith) c.before.loop-j.invariant.1))

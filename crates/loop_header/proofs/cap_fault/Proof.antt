@@ -3,11 +3,11 @@ use borrow.Author.Rules.{rules}
 use Rattle.loop_header.proofs.cap_fault.Statement.{statement}
 use Rattle.loop_header.proofs.cap_fault.Tie as tie
 
-pub cap-fault-spec : {M : Type 1} → statement M
+pub cap_fault_spec : {M : Type 1} → statement M
 unfolding cap_fault
-cap-fault-spec =
+cap_fault_spec =
     tie.close
     (tie.spec
     (λ c κs. search rules) (λ c κs. search rules)
-    (λ c. simp (← c.before.before.is_finite.ensures, ← c.before.is-finite2.ensures, c.if1.true))
-    (λ c. simp (← c.before.before.is_finite.ensures, ← c.before.is-finite2.ensures, c.if1.false)))
+    (λ c. simp (← c.before.before.is_finite.ensures, ← c.before.is_finite-2.ensures, c.if-is_finite.true))
+    (λ c. simp (← c.before.before.is_finite.ensures, ← c.before.is_finite-2.ensures, c.if-is_finite.false)))

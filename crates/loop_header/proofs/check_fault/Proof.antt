@@ -9,23 +9,23 @@ use borrow.Author.Rules.{rules}
 use Rattle.loop_header.proofs.check_fault.Statement.{statement}
 use Rattle.loop_header.proofs.check_fault.Tie as tie
 
-returns : tie.Need-returns
+returns : tie.Need-returns-then-f-ne0
 unfolding check_fault
-returns c = rw (← c.before.shape-fault.ensures) (sym (first_hit _ _ c.if1.true))
+returns c = rw (← c.before.shape_fault-f.ensures) (sym (first_hit _ _ c.if-f-ne0.true))
 
-returns-2 : tie.Need-returns-2
+returns-2 : tie.Need-returns-then-size-ne0
 unfolding check_fault
 returns-2 c =
     let shaped = c.before in
-    simp (← shaped.before.shape-fault.ensures, shaped.if1.false, ne_eqb _ _ c.if2.true)
+    simp (← shaped.before.shape_fault-f.ensures, shaped.if-f-ne0.false, ne_eqb _ _ c.if-size-ne0.true)
 
-ring-fault-requires : tie.Need-ring-fault-requires
+ring-fault-requires : tie.Need-ring_fault-requires
 ring-fault-requires c κs =
     let shaped = c.before in
-    let sizes = shape _ _ _ (sym shaped.before.shape-fault.ensures ∙ shaped.if1.false) in
+    let sizes = shape _ _ _ (sym shaped.before.shape_fault-f.ensures ∙ shaped.if-f-ne0.false) in
     omega (arith, sizes.positions)
 
-returns-3 : tie.Need-returns-3
+returns-3 : tie.Need-returns
 unfolding check_fault
 returns-3 c =
     let only = c.before in
@@ -33,16 +33,16 @@ returns-3 c =
     let sized = ring.before in
     let shaped = sized.before in
     simp (
-      ← shaped.before.shape-fault.ensures,
-      shaped.if1.false,
-      eq-eqb _ _ sized.if2.false,
+      ← shaped.before.shape_fault-f.ensures,
+      shaped.if-f-ne0.false,
+      eq-eqb _ _ sized.if-size-ne0.false,
       c.first.ensures,
-      only.ring-only.ensures,
-      ring.ring-fault.ensures,
+      only.ring_only.ensures,
+      ring.ring_fault.ensures,
     )
 
-pub check-fault-spec : {M : Type 1} → statement M
-check-fault-spec =
+pub check_fault_spec : {M : Type 1} → statement M
+check_fault_spec =
     tie.close
     (tie.spec
     (λ c κs. search rules)

@@ -9,24 +9,24 @@ use borrow.Author.Rules.{rules}
 use Rattle.loop_header.proofs.loop_fault.Statement.{statement}
 use Rattle.loop_header.proofs.loop_fault.Tie as tie
 
-returns : tie.Need-returns
+returns : tie.Need-returns-then-f-ne0
 unfolding loop_fault
-returns c = rw (← c.before.shape-fault.ensures) (sym (first_hit _ _ c.if1.true))
+returns c = rw (← c.before.shape_fault-f.ensures) (sym (first_hit _ _ c.if-f-ne0.true))
 
-returns-2 : tie.Need-returns-2
+returns-2 : tie.Need-returns-then-not-threes
 unfolding loop_fault
 returns-2 c =
     let sized = c.before in
     let shaped = sized.before in
-    simp (← shaped.before.shape-fault.ensures, shaped.if1.false, ← sized.threes.ensures, not_true sized.threes.result c.if2.true)
+    simp (← shaped.before.shape_fault-f.ensures, shaped.if-f-ne0.false, ← sized.threes.ensures, not_true sized.threes.result c.if-not-threes.true)
 
-ring-fault-requires : tie.Need-ring-fault-requires
+ring-fault-requires : tie.Need-ring_fault-g-requires
 ring-fault-requires c κs =
     let shaped = c.before.before in
-    let sizes = shape _ _ _ (sym shaped.before.shape-fault.ensures ∙ shaped.if1.false) in
+    let sizes = shape _ _ _ (sym shaped.before.shape_fault-f.ensures ∙ shaped.if-f-ne0.false) in
     omega (arith, sizes.positions)
 
-returns-3 : tie.Need-returns-3
+returns-3 : tie.Need-returns-then-g-ne0
 unfolding loop_fault
 returns-3 c =
     let ring = c.before in
@@ -34,21 +34,21 @@ returns-3 c =
     let sized = fit.before in
     let shaped = sized.before in
     simp (
-      ← shaped.before.shape-fault.ensures,
-      shaped.if1.false,
+      ← shaped.before.shape_fault-f.ensures,
+      shaped.if-f-ne0.false,
       ← sized.threes.ensures,
-      not_false sized.threes.result fit.if2.false,
-      ← ring.ring-fault.ensures,
+      not_false sized.threes.result fit.if-not-threes.false,
+      ← ring.ring_fault-g.ensures,
     )
-    (sym (first_hit _ _ c.if3.true))
+    (sym (first_hit _ _ c.if-g-ne0.true))
 
-vectors-fault-requires : tie.Need-vectors-fault-requires
+vectors-fault-requires : tie.Need-vectors_fault-requires
 vectors-fault-requires c κs =
     let fit = c.before.before in
     let sized = fit.before in
-    omega (arith, threes_length _ _ (sym sized.threes.ensures ∙ not_false sized.threes.result fit.if2.false))
+    omega (arith, threes_length _ _ (sym sized.threes.ensures ∙ not_false sized.threes.result fit.if-not-threes.false))
 
-returns-4 : tie.Need-returns-4
+returns-4 : tie.Need-returns
 unfolding loop_fault
 returns-4 c =
     let good = c.before in
@@ -57,17 +57,17 @@ returns-4 c =
     let sized = fit.before in
     let shaped = sized.before in
     simp (
-      ← shaped.before.shape-fault.ensures,
-      shaped.if1.false,
+      ← shaped.before.shape_fault-f.ensures,
+      shaped.if-f-ne0.false,
       ← sized.threes.ensures,
-      not_false sized.threes.result fit.if2.false,
-      ← ring.ring-fault.ensures,
-      good.if3.false,
-      c.vectors-fault.ensures,
+      not_false sized.threes.result fit.if-not-threes.false,
+      ← ring.ring_fault-g.ensures,
+      good.if-g-ne0.false,
+      c.vectors_fault.ensures,
     )
 
-pub loop-fault-spec : {M : Type 1} → statement M
-loop-fault-spec =
+pub loop_fault_spec : {M : Type 1} → statement M
+loop_fault_spec =
     tie.close
     (tie.spec
     (λ c κs. search rules)

@@ -6,13 +6,13 @@ use borrow.Author.Rules.{rules}
 use Rattle.loop_header.proofs.ring_fault.Statement.{statement}
 use Rattle.loop_header.proofs.ring_fault.Tie as tie
 
-pub ring-fault-spec : {M : Type 1} → statement M
+pub ring_fault_spec : {M : Type 1} → statement M
 unfolding ring_fault
-ring-fault-spec =
+ring_fault_spec =
     tie.close
     (tie.spec
-    (λ c. simp (lt-ltb _ _ c.if1.true))
+    (λ c. simp (lt-ltb _ _ c.if-h-gt512.true))
     (λ c κs. search rules)
-    (λ c. simp (le-ltb _ _ c.before.before.if1.false, ← c.before.classes-fault.ensures) (sym (first_hit _ _ c.if2.true)))
+    (λ c. simp (le-ltb _ _ c.before.before.if-h-gt512.false, ← c.before.classes_fault-f.ensures) (sym (first_hit _ _ c.if-f-ne0.true)))
     (λ c κs. search rules)
-    (λ c. simp (le-ltb _ _ c.before.before.before.if1.false, ← c.before.before.classes-fault.ensures, c.before.if2.false, c.positions-fault.ensures)))
+    (λ c. simp (le-ltb _ _ c.before.before.before.if-h-gt512.false, ← c.before.before.classes_fault-f.ensures, c.before.if-f-ne0.false, c.positions_fault.ensures)))

@@ -4,27 +4,27 @@ use borrow.Author.Rules.{rules}
 use Rattle.loop_relate.proofs.by_caps.Statement.{statement}
 use Rattle.loop_relate.proofs.by_caps.Tie as tie
 
-returns : tie.Need-returns
+returns : tie.Need-returns-then-not-caps_meet
 unfolding by_caps
-returns c = simp (← c.before.caps-meet.ensures, c.if1.true)
+returns c = simp (← c.before.caps_meet.ensures, c.if-not-caps_meet.true)
 
-returns-2 : tie.Need-returns-2
+returns-2 : tie.Need-returns-then-equivalent
 unfolding by_caps
 returns-2 c =
     let compared = c.before in
     let met = compared.before in
-    simp (← met.before.caps-meet.ensures, met.if1.false, ← compared.equivalent.ensures, c.if2.true)
+    simp (← met.before.caps_meet.ensures, met.if-not-caps_meet.false, ← compared.equivalent.ensures, c.if-equivalent.true)
 
-returns-3 : tie.Need-returns-3
+returns-3 : tie.Need-returns
 unfolding by_caps
 returns-3 c =
     let left = c.before in
     let compared = left.before in
     let met = compared.before in
-    simp (← met.before.caps-meet.ensures, met.if1.false, ← compared.equivalent.ensures, left.if2.false) c.by-edges.ensures
+    simp (← met.before.caps_meet.ensures, met.if-not-caps_meet.false, ← compared.equivalent.ensures, left.if-equivalent.false) c.by_edges.ensures
 
-pub by-caps-spec : {M : Type 1} → statement M
-by-caps-spec =
+pub by_caps_spec : {M : Type 1} → statement M
+by_caps_spec =
     tie.close
     (tie.spec
     (λ c κs. search rules)

@@ -4,13 +4,13 @@ use borrow.Author.Rules.{rules}
 use Rattle.loop_relate.proofs.by_edges.Statement.{statement}
 use Rattle.loop_relate.proofs.by_edges.Tie as tie
 
-returns : tie.Need-returns
+returns : tie.Need-returns-then-is_crossed
 unfolding by_edges
 returns c =
     let asked = c.before in
-    simp (← asked.before.contact-of.ensures, ← asked.is-crossed.ensures, c.if1.true)
+    simp (← asked.before.contact_of-k.ensures, ← asked.is_crossed.ensures, c.if-is_crossed.true)
 
-returns-2 : tie.Need-returns-2
+returns-2 : tie.Need-returns
 unfolding by_edges
 returns-2 c =
     let touched = c.before in
@@ -19,17 +19,17 @@ returns-2 c =
     let left = first.before in
     let asked = left.before in
     simp (
-      ← asked.before.contact-of.ensures,
-      ← asked.is-crossed.ensures,
-      left.if1.false,
-      ← touched.is-touched.ensures,
-      ← second.lies-in2.ensures,
-      ← first.lies_in.ensures,
+      ← asked.before.contact_of-k.ensures,
+      ← asked.is_crossed.ensures,
+      left.if-is_crossed.false,
+      ← touched.is_touched.ensures,
+      ← second.lies_in-containing.ensures,
+      ← first.lies_in-within.ensures,
     )
-    c.by-containment.ensures
+    c.by_containment.ensures
 
-pub by-edges-spec : {M : Type 1} → statement M
-by-edges-spec =
+pub by_edges_spec : {M : Type 1} → statement M
+by_edges_spec =
     tie.close
     (tie.spec
     (λ c κs. search rules) (λ c κs. search rules)

@@ -4,29 +4,29 @@ use borrow.Author.Rules.{rules}
 use Rattle.loop_relate.proofs.by_states.Statement.{statement}
 use Rattle.loop_relate.proofs.by_states.Tie as tie
 
-returns : tie.Need-returns
+returns : tie.Need-returns-then-is_full-2
 unfolding by_states
 returns c =
     let second = c.before in
     let full = second.before in
-    simp (← full.before.is-full.ensures, full.if1.true, ← second.is-full2.ensures, c.if2.true)
+    simp (← full.before.is_full.ensures, full.if-is_full.true, ← second.is_full-then-is_full.ensures, c.if-is_full-2.true)
 
-returns-2 : tie.Need-returns-2
+returns-2 : tie.Need-returns-then-is_full
 unfolding by_states
 returns-2 c =
     let second = c.before in
     let full = second.before in
-    simp (← full.before.is-full.ensures, full.if1.true, ← second.is-full2.ensures, c.if2.false)
+    simp (← full.before.is_full.ensures, full.if-is_full.true, ← second.is_full-then-is_full.ensures, c.if-is_full-2.false)
 
-returns-3 : tie.Need-returns-3
+returns-3 : tie.Need-returns-then-is_empty
 unfolding by_states
 returns-3 c =
     let second = c.before in
     let one = second.before in
     let other = one.before in
-    simp (← other.before.is-full.ensures, other.if1.false, ← one.is-empty.ensures, ← second.is-empty2.ensures, c.if3.true)
+    simp (← other.before.is_full.ensures, other.if-is_full.false, ← one.is_empty.ensures, ← second.is_empty-2.ensures, c.if-is_empty.true)
 
-returns-4 : tie.Need-returns-4
+returns-4 : tie.Need-returns
 unfolding by_states
 returns-4 c =
     let left = c.before in
@@ -34,11 +34,11 @@ returns-4 c =
     let one = second.before in
     let other = one.before in
     simp
-    (← other.before.is-full.ensures, other.if1.false, ← one.is-empty.ensures, ← second.is-empty2.ensures, left.if3.false)
-    c.by-caps.ensures
+    (← other.before.is_full.ensures, other.if-is_full.false, ← one.is_empty.ensures, ← second.is_empty-2.ensures, left.if-is_empty.false)
+    c.by_caps.ensures
 
-pub by-states-spec : {M : Type 1} → statement M
-by-states-spec =
+pub by_states_spec : {M : Type 1} → statement M
+by_states_spec =
     tie.close
     (tie.spec
     (λ c κs. search rules) (λ c κs. search rules)

@@ -3,17 +3,17 @@ use borrow.Author.Rules.{rules}
 use Rattle.loop_relate.proofs.caps_meet.Statement.{statement}
 use Rattle.loop_relate.proofs.caps_meet.Tie as tie
 
-returns : tie.Need-returns
+returns : tie.Need-returns-in-Plain
 returns c =
     let asked = c.before.before in
     let second = asked.before in
-    simp (c.enum_told.given.1, asked.intersects.ensures, second.cleared-cap2.ensures, second.before.cleared-cap.ensures)
+    simp (c.enum_told-1.requires.1, asked.intersects-meet.ensures, second.cleared_cap-2.ensures, second.before.cleared_cap.ensures)
 
-returns-2 : tie.Need-returns-2
-returns-2 c = simp c.enum-told2.given.1
+returns-2 : tie.Need-returns-in-Long
+returns-2 c = simp c.enum_told-in-Long-1.requires.1
 
-pub caps-meet-spec : {M : Type 1} → statement M
-caps-meet-spec =
+pub caps_meet_spec : {M : Type 1} → statement M
+caps_meet_spec =
     tie.close
     (tie.spec
     (λ c κs. search rules) (λ c κs. search rules) (λ c κs. search rules) (λ c. search rules) (λ c. search rules)

@@ -3,10 +3,10 @@ use borrow.Author.Rules.{rules}
 use Rattle.loop_relate.proofs.lies_in.Statement.{statement}
 use Rattle.loop_relate.proofs.lies_in.Tie as tie
 
-pub lies-in-spec : {M : Type 1} → statement M
+pub lies_in_spec : {M : Type 1} → statement M
 unfolding lies_in
-lies-in-spec =
+lies_in_spec =
     tie.close
     (tie.spec
     (λ c κs. search rules) (λ c κs. search rules)
-    (λ c. simp (c.probe-inside.ensures, c.before.unambiguous-point.ensures)))
+    (λ c. simp (c.probe_inside.ensures, c.before.unambiguous_point.ensures)))

@@ -8,32 +8,32 @@ use borrow.Author.Rules.{rules}
 use Rattle.loop_relate.proofs.relate.Statement.{statement}
 use Rattle.loop_relate.proofs.relate.Tie as tie
 
-returns : tie.Need-returns
+returns : tie.Need-returns-then-f-ne0
 unfolding relate_fault relate_answer
 returns c =
     let found = c.before in
     let modes = found.before in
-    let told = simp (modes.modes-fault.ensures, modes.before.pair-fault.ensures) at found.first.ensures in
-    rw (← told) (was_refused _ _ c.if1.true)
+    let told = simp (modes.modes_fault.ensures, modes.before.pair_fault.ensures) at found.first-f.ensures in
+    rw (← told) (was_refused _ _ c.if-f-ne0.true)
 
-by-states-requires : tie.Need-by-states-requires
+by-states-requires : tie.Need-by_states-requires
 by-states-requires c κs =
     let found = c.before in
-    let none = (first_zero_lem _ _ (sym found.first.ensures ∙ c.if1.false)).0 in
-    let pair = found.before.before.pair-fault.ensures in
+    let none = (first_zero_lem _ _ (sym found.first-f.ensures ∙ c.if-f-ne0.false)).0 in
+    let pair = found.before.before.pair_fault.ensures in
     (sized _ _ _ _ _ _ _ _ pair none, comparable _ _ _ _ _ _ _ _ pair none)
 
-returns-2 : tie.Need-returns-2
+returns-2 : tie.Need-returns
 unfolding relate_fault relate_answer
 returns-2 c =
     let left = c.before in
     let found = left.before in
     let modes = found.before in
-    let told = simp (modes.modes-fault.ensures, modes.before.pair-fault.ensures) at found.first.ensures in
-    rw (← told, left.if1.false) c.by-states.ensures
+    let told = simp (modes.modes_fault.ensures, modes.before.pair_fault.ensures) at found.first-f.ensures in
+    rw (← told, left.if-f-ne0.false) c.by_states.ensures
 
-pub relate-spec : {M : Type 1} → statement M
-relate-spec =
+pub relate_spec : {M : Type 1} → statement M
+relate_spec =
     tie.close
     (tie.spec
     (λ c κs. search rules) (λ c κs. search rules) (λ c κs. search rules)

@@ -6,13 +6,13 @@ use borrow.Author.Rules.{rules}
 use Rattle.loop_triangles.proofs.accepts.Statement.{statement}
 use Rattle.loop_triangles.proofs.accepts.Tie as tie
 
-pub accepts-spec : {M : Type 1} → statement M
+pub accepts_spec : {M : Type 1} → statement M
 unfolding accepts_answer
-accepts-spec =
+accepts_spec =
     tie.close
     (tie.spec
     (λ c κs. search rules)
-    (λ c. rw (← c.before.check-fault.ensures) (J.was_refused _ _ c.if1.true))
-    (λ c κs. check_ring _ _ _ _ c.before.check-fault.ensures c.if1.false)
+    (λ c. rw (← c.before.check_fault-f.ensures) (J.was_refused _ _ c.if-f-ne0.true))
+    (λ c κs. check_ring _ _ _ _ c.before.check_fault-f.ensures c.if-f-ne0.false)
     (λ c κs. search rules)
-    (λ c. rw (← c.before.before.before.check-fault.ensures) (c.tell.ensures ∙ simp c.before.check-list.ensures (J.was_fine _ c.before.before.if1.false))))
+    (λ c. rw (← c.before.before.before.check_fault-f.ensures) (c.tell.ensures ∙ simp c.before.check_list.ensures (J.was_fine _ c.before.before.if-f-ne0.false))))

@@ -4,11 +4,11 @@ use borrow.Author.Rules.{rules}
 use Rattle.loop_triangles.proofs.cut_full.Statement.{statement}
 use Rattle.loop_triangles.proofs.cut_full.Tie as tie
 
-pub cut-full-spec : {M : Type 1} → statement M
+pub cut_full_spec : {M : Type 1} → statement M
 unfolding full_outcome
-cut-full-spec =
+cut_full_spec =
     tie.close
     (tie.spec
-    (λ c. simp (lt-ltb _ _ c.if1.true))
+    (λ c. simp (lt-ltb _ _ c.if-triangles-lt60.true))
     (λ c κs. search rules) (λ c. search rules)
-    (λ c. simp (le-ltb _ _ c.before.before.before.before.if1.false, c.before.before.write-triples.ensures)))
+    (λ c. simp (le-ltb _ _ c.before.before.before.before.if-triangles-lt60.false, c.before.before.write_triples.ensures)))

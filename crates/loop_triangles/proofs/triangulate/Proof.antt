@@ -6,39 +6,39 @@ use borrow.Author.Rules.{rules}
 use Rattle.loop_triangles.proofs.triangulate.Statement.{statement}
 use Rattle.loop_triangles.proofs.triangulate.Tie as tie
 
-returns : tie.Need-returns
+returns : tie.Need-returns-then-f-ne0
 unfolding triangulate_outcome
-returns c = rw (← c.before.cut-fault.ensures) (was_refused _ _ _ c.if1.true)
+returns c = rw (← c.before.cut_fault-f.ensures) (was_refused _ _ _ c.if-f-ne0.true)
 
-cut-corners-requires : tie.Need-cut-corners-requires
+cut-corners-requires : tie.Need-cut_corners-requires
 cut-corners-requires c κs =
     let fine = c.before.before.before in
-    cut_ring _ _ _ fine.before.cut-fault.ensures fine.if1.false c.before.enum-told3.given.1
+    cut_ring _ _ _ fine.before.cut_fault-f.ensures fine.if-f-ne0.false c.before.enum_told-in-Ring-1.requires.1
 
-returns-2 : tie.Need-returns-2
+returns-2 : tie.Need-returns-in-Empty
 unfolding triangulate_outcome
 returns-2 c =
     let fine = c.before.before in
-    simp c.enum_told.given.1 (rw (← fine.before.cut-fault.ensures) (was_fine _ fine.if1.false))
+    simp c.enum_told-1.requires.1 (rw (← fine.before.cut_fault-f.ensures) (was_fine _ fine.if-f-ne0.false))
 
-returns-3 : tie.Need-returns-3
+returns-3 : tie.Need-returns-in-Full
 unfolding triangulate_outcome
 returns-3 c =
     let cut = c.before.before in
     let full = cut.before.before in
     let fine = full.before.before in
-    simp full.enum-told2.given.1 (rw (← fine.before.cut-fault.ensures) (cut.cut-full.ensures ∙ was_fine _ fine.if1.false))
+    simp full.enum_told-in-Full-1.requires.1 (rw (← fine.before.cut_fault-f.ensures) (cut.cut_full.ensures ∙ was_fine _ fine.if-f-ne0.false))
 
-returns-4 : tie.Need-returns-4
+returns-4 : tie.Need-returns-in-Ring
 unfolding triangulate_outcome
 returns-4 c =
     let cut = c.before.before in
     let ring = cut.before.before in
     let fine = ring.before.before in
-    simp ring.enum-told3.given.1 (rw (← fine.before.cut-fault.ensures) (cut.cut-corners.ensures ∙ was_fine _ fine.if1.false))
+    simp ring.enum_told-in-Ring-1.requires.1 (rw (← fine.before.cut_fault-f.ensures) (cut.cut_corners.ensures ∙ was_fine _ fine.if-f-ne0.false))
 
-pub triangulate-spec : {M : Type 1} → statement M
-triangulate-spec =
+pub triangulate_spec : {M : Type 1} → statement M
+triangulate_spec =
     tie.close
     (tie.spec
     (λ c κs. search rules)

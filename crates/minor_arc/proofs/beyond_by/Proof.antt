@@ -13,24 +13,24 @@ neither : (mode : Mode) (s e : Float) → beyond s e ≡ false → false ≡ bey
 neither Plain s e h = sym h
 neither Long s e h = rw h
 
-returns : tie.Need-returns
+returns : tie.Need-returns-in-Plain
 returns c =
     let one = c.before.before in
-    simp (c.enum_told.given.1, ← one.before.beyond.ensures, one.if1.true)
+    simp (c.enum_told-1.requires.1, ← one.before.beyond.ensures, one.if-beyond.true)
 
-returns-2 : tie.Need-returns-2
+returns-2 : tie.Need-returns-in-Long
 returns-2 c =
     let long = c.before in
     let one = long.before.before in
-    simp (long.enum-told2.given.1, ← one.before.beyond.ensures, one.if1.true) c.beyond2.ensures
+    simp (long.enum_told-in-Long-1.requires.1, ← one.before.beyond.ensures, one.if-beyond.true) c.beyond-in-Long.ensures
 
-returns-3 : tie.Need-returns-3
+returns-3 : tie.Need-returns-else-beyond
 returns-3 c =
     let asked = c.before in
-    neither asked.before.args.mode _ _ (sym asked.beyond.ensures ∙ c.if1.false)
+    neither asked.before.args.mode _ _ (sym asked.beyond.ensures ∙ c.if-beyond.false)
 
-pub beyond-by-spec : {M : Type 1} → statement M
-beyond-by-spec =
+pub beyond_by_spec : {M : Type 1} → statement M
+beyond_by_spec =
     tie.close
     (tie.spec
     (λ c κs. tt) (λ c. search rules) (λ c. search rules) (λ c κs. tt)

@@ -10,17 +10,17 @@ follow-requires : tie.Need-follow-requires
 follow-requires c κs =
     let whole = c.before.before.before.before.before.before in
     let given = whole.before.before.before.before.before.before.before.before.requires in
-    let made = ready given.0 whole.whole-ring.ensures in
+    let made = ready given.0 whole.whole_ring.ensures in
     (made.0, made.1, omega (arith, made.2, given.1))
 
 returns : tie.Need-returns
 returns c =
     let followed = c.before.before.before.before in
     let whole = followed.before.before.before.before.before.before.before in
-    of_whole _ _ _ whole.whole-ring.ensures followed.follow.ensures
+    of_whole _ _ _ whole.whole_ring.ensures followed.follow.ensures
 
-pub check-in-spec : {M : Type 1} → statement M
-check-in-spec =
+pub check_in_spec : {M : Type 1} → statement M
+check_in_spec =
     tie.close
     (tie.spec
     (λ c κs. search rules)

@@ -7,16 +7,16 @@ use borrow.Author.Rules.{rules}
 use Rattle.ring_check.proofs.check_list.Statement.{statement}
 use Rattle.ring_check.proofs.check_list.Tie as tie
 
-pub check-list-spec : {M : Type 1} → statement M
+pub check_list_spec : {M : Type 1} → statement M
 unfolding accepted
-check-list-spec =
+check_list_spec =
     tie.close
     (tie.spec
     (λ c. search rules) (λ c. search rules)
-    (λ c. simp (ne_eqb _ _ c.if1.true))
+    (λ c. simp (ne_eqb _ _ c.if-triangles-n.true))
     (λ c. search rules)
     (λ c. sym (first_of_lem 512 0 c.before.before.before.before.before.requires.most))
     (λ c. search rules)
     (λ c. sym (first_of_lem 512 0 c.before.before.before.before.before.before.requires.most))
     (λ c κs. let p = c.before.before.before.before.before.before.requires in (record { ring = p; ids_size = first_of_lem 512 0 p.most; work_size = first_of_lem 512 0 p.most }, omega arith))
-    (λ c. rw (eq-eqb _ _ c.before.before.before.before.before.if1.false, c.before.before.check-in.ensures)))
+    (λ c. rw (eq-eqb _ _ c.before.before.before.before.before.if-triangles-n.false, c.before.before.check_in.ensures)))

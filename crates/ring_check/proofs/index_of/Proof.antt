@@ -8,22 +8,22 @@ use Rattle.laws.proofs.Loops.{Look, look_hit, look_on}
 use Rattle.ring_check.proofs.index_of.Statement.{statement}
 use Rattle.ring_check.proofs.index_of.Tie as tie
 
-abbrev invariant-loop : tie.invariant-loop
+abbrev invariant-loop : tie.invariant-loop-i
 invariant-loop ids b i₀ i-end i = Look (is_number ids b) (length ids) i (index_of ids b)
 
-abbrev decreases-loop : tie.decreases-loop
+abbrev decreases-loop : tie.decreases-loop-i
 decreases-loop ids b i₀ i-end i = length ids - i
 
-pub index-of-spec : {M : Type 1} → statement M
-index-of-spec =
+pub index_of_spec : {M : Type 1} → statement M
+index_of_spec =
     tie.close
     (tie.spec
     invariant-loop decreases-loop
     (λ c. search kit)
     (λ c. search kit)
     (λ c. search kit)
-    (λ c. look_hit c.before.before.before.loop.invariant (sym (eq-eqb _ _ c.if1.true)) (search kit) refl)
+    (λ c. look_hit c.before.before.before.loop-i.invariant (sym (eq-eqb _ _ c.if-ids-i.true)) (search kit) refl)
     (λ c. search kit)
     (λ c. search kit)
-    (λ c. look_on c.before.before.before.loop.invariant (sym (ne_eqb _ _ c.if1.false)) (search kit) refl)
+    (λ c. look_on c.before.before.before.loop-i.invariant (sym (ne_eqb _ _ c.if-ids-i.false)) (search kit) refl)
     (λ c. search kit))

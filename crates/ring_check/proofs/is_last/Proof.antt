@@ -3,8 +3,8 @@ use borrow.Author.Rules.{rules}
 use Rattle.ring_check.proofs.is_last.Statement.{statement}
 use Rattle.ring_check.proofs.is_last.Tie as tie
 
-pub is-last-spec : {M : Type 1} → statement M
-is-last-spec =
+pub is_last_spec : {M : Type 1} → statement M
+is_last_spec =
     tie.close
     (tie.spec
     (λ c. search rules) (λ c. search rules) (λ c. search rules) (λ c. search rules) (λ c. search rules)

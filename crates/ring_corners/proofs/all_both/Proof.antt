@@ -10,22 +10,22 @@ use Prim.Native.Nat.{◌-◌}
 use Rattle.ring_corners.proofs.all_both.Statement.{statement}
 use Rattle.ring_corners.proofs.all_both.Tie as tie
 
-abbrev invariant-loop : tie.invariant-loop
+abbrev invariant-loop : tie.invariant-loop-k
 invariant-loop classes k₀ k-end k = Any (other_than_both classes) (length classes) k (any_of (other_than_both classes) (length classes) 0)
 
-abbrev decreases-loop : tie.decreases-loop
+abbrev decreases-loop : tie.decreases-loop-k
 decreases-loop classes k₀ k-end k = length classes - k
 
-pub all-both-spec : {M : Type 1} → statement M
+pub all_both_spec : {M : Type 1} → statement M
 unfolding all_both
-all-both-spec =
+all_both_spec =
     tie.close
     (tie.spec
     invariant-loop decreases-loop
     (λ c. any)
     (λ c. search rules)
-    (λ c. rw (← any_hit c.before.before.before.loop.invariant refl (omega arith) (rw (ne_eqb _ _ c.if1.true))))
+    (λ c. rw (← any_hit c.before.before.before.loop-k.invariant refl (omega arith) (rw (ne_eqb _ _ c.if-classes-k-ne2.true))))
     (λ c. search rules)
     (λ c. search rules)
-    (λ c. any_on c.before.before.before.loop.invariant refl (omega arith) (rw (eq-eqb _ _ c.if1.false)))
-    (λ c. rw (← any_end c.before.loop.invariant (omega arith))))
+    (λ c. any_on c.before.before.before.loop-k.invariant refl (omega arith) (rw (eq-eqb _ _ c.if-classes-k-ne2.false)))
+    (λ c. rw (← any_end c.before.loop-k.invariant (omega arith))))

@@ -4,8 +4,8 @@ use Rattle.ring_index.proofs.Rounds.{under, over}
 use Rattle.ring_corners.proofs.opposite_source.Statement.{statement}
 use Rattle.ring_corners.proofs.opposite_source.Tie as tie
 
-pub opposite-source-spec : {M : Type 1} → statement M
-opposite-source-spec =
+pub opposite_source_spec : {M : Type 1} → statement M
+opposite_source_spec =
     tie.close
     (tie.spec
     (λ c. search rules)

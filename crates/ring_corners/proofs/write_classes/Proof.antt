@@ -9,14 +9,14 @@ use Prim.Native.Nat.{◌-◌}
 use Rattle.ring_corners.proofs.write_classes.Statement.{statement}
 use Rattle.ring_corners.proofs.write_classes.Tie as tie
 
-abbrev invariant-loop : tie.invariant-loop
+abbrev invariant-loop : tie.invariant-loop-k
 invariant-loop list edges n reversed out₀ k₀ out k = Fill 1 (λ j. class_at list n reversed j ∷ []) n k out₀ out × (length out₀ ≡ n)
 
-abbrev decreases-loop : tie.decreases-loop
+abbrev decreases-loop : tie.decreases-loop-k
 decreases-loop list edges n reversed out₀ k₀ out k = n - k
 
-pub write-classes-spec : {M : Type 1} → statement M
-write-classes-spec =
+pub write_classes_spec : {M : Type 1} → statement M
+write_classes_spec =
     tie.close
     (tie.spec
     invariant-loop decreases-loop
@@ -25,6 +25,6 @@ write-classes-spec =
     (λ c. search rules)
     (λ c. search rules)
     (λ c. search rules)
-    (λ c. (fill_on_one c.before.before.loop.invariant.0 refl (simp c.class.ensures) (omega arith), c.before.before.loop.invariant.1))
+    (λ c. (fill_on_one c.before.before.loop-k.invariant.0 refl (simp c.class.ensures) (omega arith), c.before.before.loop-k.invariant.1))
     (λ c. search rules)
-    (λ c. fill_all_one c.before.loop.invariant.0 (omega arith) c.before.loop.invariant.1))
+    (λ c. fill_all_one c.before.loop-k.invariant.0 (omega arith) c.before.loop-k.invariant.1))

@@ -8,14 +8,14 @@ use Prim.Native.Nat.{◌-◌}
 use Rattle.ring_corners.proofs.write_corners.Statement.{statement}
 use Rattle.ring_corners.proofs.write_corners.Tie as tie
 
-abbrev invariant-loop : tie.invariant-loop
+abbrev invariant-loop : tie.invariant-loop-k
 invariant-loop list n reversed out₀ k₀ out k = Fill 3 (λ j. coords (corner_at list n reversed j)) n k out₀ out
 
-abbrev decreases-loop : tie.decreases-loop
+abbrev decreases-loop : tie.decreases-loop-k
 decreases-loop list n reversed out₀ k₀ out k = n - k
 
-pub write-corners-spec : {M : Type 1} → statement M
-write-corners-spec =
+pub write_corners_spec : {M : Type 1} → statement M
+write_corners_spec =
     tie.close
     (tie.spec
     invariant-loop decreases-loop
@@ -24,6 +24,6 @@ write-corners-spec =
     (λ c κs. search rules)
     (λ c. search rules)
     (λ c. search rules)
-    (λ c. fill_on c.before.before.before.before.before.before.loop.invariant (simp (c.before.before.put.ensures, c.before.before.before.corner.ensures)) (omega arith))
+    (λ c. fill_on c.before.before.before.before.before.before.loop-k.invariant (simp (c.before.before.put.ensures, c.before.before.before.corner.ensures)) (omega arith))
     (λ c. search rules)
-    (λ c. fill_end c.before.loop.invariant (omega arith)))
+    (λ c. fill_end c.before.loop-k.invariant (omega arith)))

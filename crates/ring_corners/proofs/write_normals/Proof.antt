@@ -8,14 +8,14 @@ use Prim.Native.Nat.{◌-◌}
 use Rattle.ring_corners.proofs.write_normals.Statement.{statement}
 use Rattle.ring_corners.proofs.write_normals.Tie as tie
 
-abbrev invariant-loop : tie.invariant-loop
+abbrev invariant-loop : tie.invariant-loop-k
 invariant-loop list edges n reversed out₀ k₀ out k = Fill 3 (λ j. coords (normal_at list n reversed j)) n k out₀ out
 
-abbrev decreases-loop : tie.decreases-loop
+abbrev decreases-loop : tie.decreases-loop-k
 decreases-loop list edges n reversed out₀ k₀ out k = n - k
 
-pub write-normals-spec : {M : Type 1} → statement M
-write-normals-spec =
+pub write_normals_spec : {M : Type 1} → statement M
+write_normals_spec =
     tie.close
     (tie.spec
     invariant-loop decreases-loop
@@ -24,6 +24,6 @@ write-normals-spec =
     (λ c κs. search rules)
     (λ c. search rules)
     (λ c. search rules)
-    (λ c. fill_on c.before.before.before.before.before.before.loop.invariant (simp (c.before.before.put.ensures, c.before.before.before.ring-normal.ensures)) (omega arith))
+    (λ c. fill_on c.before.before.before.before.before.before.loop-k.invariant (simp (c.before.before.put.ensures, c.before.before.before.ring_normal.ensures)) (omega arith))
     (λ c. search rules)
-    (λ c. fill_end c.before.loop.invariant (omega arith)))
+    (λ c. fill_end c.before.loop-k.invariant (omega arith)))

@@ -6,8 +6,8 @@ use borrow.Author.Rules.{rules}
 use Rattle.ring_cut.proofs.cut_large.Statement.{statement}
 use Rattle.ring_cut.proofs.cut_large.Tie as tie
 
-pub cut-large-spec : {M : Type 1} → statement M
-cut-large-spec =
+pub cut_large_spec : {M : Type 1} → statement M
+cut_large_spec =
     tie.close
     (tie.spec
     (λ c. search rules)

@@ -6,8 +6,8 @@ use borrow.Author.Rules.{rules}
 use Rattle.ring_cut.proofs.cut_small.Statement.{statement}
 use Rattle.ring_cut.proofs.cut_small.Tie as tie
 
-pub cut-small-spec : {M : Type 1} → statement M
-cut-small-spec =
+pub cut_small_spec : {M : Type 1} → statement M
+cut_small_spec =
     tie.close
     (tie.spec
     (λ c. search rules)

@@ -10,14 +10,14 @@ use Prim.Native.Nat.{◌-◌}
 use Rattle.ring_cut.proofs.number.Statement.{statement}
 use Rattle.ring_cut.proofs.number.Tie as tie
 
-abbrev invariant-loop : tie.invariant-loop
+abbrev invariant-loop : tie.invariant-loop-i
 invariant-loop ids₀ i₀ i-end ids i = Fill 1 one_number (length ids₀) i ids₀ ids
 
-abbrev decreases-loop : tie.decreases-loop
+abbrev decreases-loop : tie.decreases-loop-i
 decreases-loop ids₀ i₀ i-end ids i = length ids₀ - i
 
-pub number-spec : {M : Type 1} → statement M
-number-spec =
+pub number_spec : {M : Type 1} → statement M
+number_spec =
     tie.close
     (tie.spec
     invariant-loop decreases-loop
@@ -27,6 +27,6 @@ number-spec =
     (λ c. search rules)
     (λ c. search rules)
     (λ c. search rules)
-    (λ c. fill_on_one c.before.loop.invariant refl refl (search rules))
+    (λ c. fill_on_one c.before.loop-i.invariant refl refl (search rules))
     (λ c. search rules)
-    (λ c. rw (drop-length, append-nil) at (fill_end_one c.before.loop.invariant (search rules))))
+    (λ c. rw (drop-length, append-nil) at (fill_end_one c.before.loop-i.invariant (search rules))))

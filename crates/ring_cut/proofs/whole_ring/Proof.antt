@@ -9,8 +9,8 @@ returns c =
     let copied = c.before.before in
     let numbered = copied.before.before.before.before in
     let start = numbered.before.before.before.before.before in
-    started start.args.ids.now start.args.work.now start.requires.0 start.requires.1 numbered.number.ensures copied.copy-classes.ensures
+    started start.args.ids-1.now start.args.work-1.now start.requires.0 start.requires.1 numbered.number.ensures copied.copy_classes.ensures
 
-pub whole-ring-spec : {M : Type 1} → statement M
-whole-ring-spec =
+pub whole_ring_spec : {M : Type 1} → statement M
+whole_ring_spec =
     tie.close (tie.spec (λ c κs. search rules) (λ c κs. search rules) (λ c. search rules) (λ c. search rules) returns)

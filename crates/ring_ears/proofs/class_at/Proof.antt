@@ -6,11 +6,11 @@ use borrow.Author.Rules.{rules}
 use Rattle.ring_ears.proofs.class_at.Statement.{statement}
 use Rattle.ring_ears.proofs.class_at.Tie as tie
 
-pub class-at-spec : {M : Type 1} → statement M
-class-at-spec =
+pub class_at_spec : {M : Type 1} → statement M
+class_at_spec =
     tie.close
     (tie.spec
     (λ c κs. search rules) (λ c κs. search rules) (λ c κs. search rules)
-    (λ c. let h = simp (c.before.is-surely-right.ensures, c.before.before.cross-prod.ensures, c.before.before.before.triangle-at.ensures) at c.if1.true in sym (ap (λ (s : Side). class_of s) (surely_right_lem _ _ _ h)))
+    (λ c. let h = simp (c.before.is_surely_right.ensures, c.before.before.cross_prod.ensures, c.before.before.before.triangle_at-t.ensures) at c.if-is_surely_right.true in sym (ap (λ (s : Side). class_of s) (surely_right_lem _ _ _ h)))
     (λ c κs. search rules) (λ c κs. search rules)
-    (λ c. simp (c.class_of.ensures, c.before.side-of.ensures, c.before.before.before.before.before.triangle-at.ensures)))
+    (λ c. simp (c.class_of.ensures, c.before.side_of.ensures, c.before.before.before.before.before.triangle_at-t.ensures)))

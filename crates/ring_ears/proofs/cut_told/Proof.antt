@@ -8,11 +8,11 @@ use borrow.Author.Rules.{rules}
 use Rattle.ring_ears.proofs.cut_told.Statement.{statement}
 use Rattle.ring_ears.proofs.cut_told.Tie as tie
 
-reclassify-both-requires : tie.Need-reclassify-both-requires
+reclassify-both-requires : tie.Need-reclassify_both-requires
 reclassify-both-requires c κs =
     let removed = c.before.before.before.before in
     let given = removed.before.before.before.before.before.requires in
-    let remove = removed.remove-at in
+    let remove = removed.remove_at in
     rw (taken _ _ given.1 _ remove.auto.0 remove.ensures) (lent_without given.0 given.1)
 
 returns : tie.Need-returns
@@ -20,13 +20,13 @@ returns c =
     let classed = c.before.before in
     let removed = classed.before.before.before.before.before in
     let given = removed.before.before.before.before.before.requires in
-    let both = classed.reclassify-both in
-    let remove = removed.remove-at in
+    let both = classed.reclassify_both in
+    let remove = removed.remove_at in
     let left = taken _ _ given.1 _ remove.auto.0 remove.ensures in
     (rw (both.ensures.0, left, remove.ensures), rw (both.ensures.1, left))
 
-pub cut-told-spec : {M : Type 1} → statement M
-cut-told-spec =
+pub cut_told_spec : {M : Type 1} → statement M
+cut_told_spec =
     tie.close
     (tie.spec
     (λ c κs. search rules) (λ c. search rules) (λ c. search rules)

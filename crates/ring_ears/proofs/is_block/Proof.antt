@@ -3,12 +3,12 @@ use borrow.Author.Rules.{rules}
 use Rattle.ring_ears.proofs.is_block.Statement.{statement}
 use Rattle.ring_ears.proofs.is_block.Tie as tie
 
-pub is-block-spec : {M : Type 1} → statement M
+pub is_block_spec : {M : Type 1} → statement M
 unfolding blocks
-is-block-spec =
+is_block_spec =
     tie.close
     (tie.spec
     (λ c κs. search rules)
-    (λ c. simp (← c.before.is_convex.ensures, c.if1.true))
+    (λ c. simp (← c.before.is_convex.ensures, c.if-is_convex.true))
     (λ c κs. search rules) (λ c κs. search rules)
-    (λ c. rw (c.inside-or-edge.ensures, c.before.corner-at.ensures, ← c.before.before.before.is_convex.ensures, c.before.before.if1.false)))
+    (λ c. rw (c.inside_or_edge.ensures, c.before.corner_at.ensures, ← c.before.before.before.is_convex.ensures, c.before.before.if-is_convex.false)))

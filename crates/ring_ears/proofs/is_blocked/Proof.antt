@@ -6,14 +6,14 @@ use Rattle.ring_ears.specs.Ears.{blocks, blocked}
 use Rattle.ring_ears.proofs.is_blocked.Statement.{statement}
 use Rattle.ring_ears.proofs.is_blocked.Tie as tie
 
-abbrev invariant-loop : tie.invariant-loop
+abbrev invariant-loop : tie.invariant-loop-j
 invariant-loop ps ids classes t j₀ j-end j = Any (blocks ps ids classes t) (length ids) j (blocked ps ids classes t)
 
-abbrev decreases-loop : tie.decreases-loop
+abbrev decreases-loop : tie.decreases-loop-j
 decreases-loop ps ids classes t j₀ j-end j = length ids - j
 
-pub is-blocked-spec : {M : Type 1} → statement M
-is-blocked-spec =
+pub is_blocked_spec : {M : Type 1} → statement M
+is_blocked_spec =
     tie.close
     (tie.spec
     invariant-loop decreases-loop

@@ -9,42 +9,42 @@ use Rattle.ring_ears.proofs.reclassify_both.Statement.{statement}
 use Rattle.ring_ears.proofs.reclassify_both.Tie as tie
 
 -- From where `wrapped` is done back to the start.
-abbrev start_of : tie.After-wrapped → tie.Start
+abbrev start_of : tie.After-wrapped-at_cut → tie.Start
 start_of c = c.before.before.before.before.before
 
-previous-requires : tie.Need-previous-requires
-previous-requires c κs = (c.wrapped.ensures.1, (start_of c).pre.0.few)
+previous-requires : tie.Need-previous-before_cut-requires
+previous-requires c κs = (c.wrapped-at_cut.ensures.1, (start_of c).pre.0.few)
 
-reclassify-requires : tie.Need-reclassify-requires
-reclassify-requires c κs = let wrap = c.before.before in ((start_of wrap).pre.0, wrap.wrapped.ensures.1)
+reclassify-requires : tie.Need-reclassify-a-requires
+reclassify-requires c κs = let wrap = c.before.before in ((start_of wrap).pre.0, wrap.wrapped-at_cut.ensures.1)
 
-reclassify-requires-2 : tie.Need-reclassify-requires-2
+reclassify-requires-2 : tie.Need-reclassify-b-requires
 reclassify-requires-2 c κs =
     let first = c.before.before.before in
     let back = first.before.before in
     let wrap = back.before in
-    (relent (start_of wrap).pre.0 first.reclassify.auto.1.1.0, omega (arith, back.previous.ensures.1, wrap.wrapped.ensures.1))
+    (relent (start_of wrap).pre.0 first.reclassify-a.auto.1.1.0, omega (arith, back.previous-before_cut.ensures.1, wrap.wrapped-at_cut.ensures.1))
 
-returns : tie.Need-returns
+returns : tie.Need-returns-then-m-gt3
 unfolding reclassify_both one_changed
 returns c =
     let second = c.before.before in
     let first = second.before.before.before.before in
     let back = first.before.before in
     let wrap = back.before in
-    let above = wrap.before.if1.true in
+    let above = wrap.before.if-m-gt3.true in
     let same = before_at_cut (start_of wrap).args.i above in
-    let index = back.previous.ensures.0 in
-    let after = wrap.wrapped.ensures.0 in
-    let one = first.reclassify.ensures in
-    let two = second.reclassify2.ensures in
+    let index = back.previous-before_cut.ensures.0 in
+    let after = wrap.wrapped-at_cut.ensures.0 in
+    let one = first.reclassify-a.ensures in
+    let two = second.reclassify-b.ensures in
     (rw (two.0, index, one.0, after, same, lt-ltb 3 _ above), rw (two.1, index, one.1, one.0, after, same, lt-ltb 3 _ above))
 
-returns-2 : tie.Need-returns-2
+returns-2 : tie.Need-returns
 unfolding reclassify_both one_changed
-returns-2 c = let few = le-ltb 3 _ c.if1.false in (rw few, rw few)
+returns-2 c = let few = le-ltb 3 _ c.if-m-gt3.false in (rw few, rw few)
 
-pub reclassify-both-spec : {M : Type 1} → statement M
-reclassify-both-spec =
+pub reclassify_both_spec : {M : Type 1} → statement M
+reclassify_both_spec =
     tie.close
     (tie.spec (λ c κs. search rules) previous-requires reclassify-requires reclassify-requires-2 (λ c. search rules) returns returns-2)

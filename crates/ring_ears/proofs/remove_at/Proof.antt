@@ -10,14 +10,14 @@ use Prim.Native.Nat.{◌-◌}
 use Rattle.ring_ears.proofs.remove_at.Statement.{statement}
 use Rattle.ring_ears.proofs.remove_at.Tie as tie
 
-abbrev invariant-loop : tie.invariant-loop
+abbrev invariant-loop : tie.invariant-loop-j
 invariant-loop ids₀ i j₀ j-end ids j = (length ids ≡ length ids₀) × Iterate (shift 0) (length ids₀ - 1) j ids (without i ids₀ ++ drop (length ids₀ - 1) ids₀)
 
-abbrev decreases-loop : tie.decreases-loop
+abbrev decreases-loop : tie.decreases-loop-j
 decreases-loop ids₀ i j₀ j-end ids j = length ids₀ - j
 
-pub remove-at-spec : {M : Type 1} → statement M
-remove-at-spec =
+pub remove_at_spec : {M : Type 1} → statement M
+remove_at_spec =
     tie.close
     (tie.spec
     invariant-loop decreases-loop
@@ -30,6 +30,6 @@ remove-at-spec =
     (λ c. search rules)
     (λ c. search rules)
     (λ c. search rules)
-    (λ c. (simp length-set c.before.before.loop.invariant.0, iterate_on c.before.before.loop.invariant.1 refl (search rules)))
+    (λ c. (simp length-set c.before.before.loop-j.invariant.0, iterate_on c.before.before.loop-j.invariant.1 refl (search rules)))
     (λ c. search rules)
-    (λ c. iterate_end c.before.loop.invariant.1 (search rules)))
+    (λ c. iterate_end c.before.loop-j.invariant.1 (search rules)))

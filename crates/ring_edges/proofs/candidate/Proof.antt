@@ -5,8 +5,8 @@ use Rattle.ring_edges.proofs.Arrays.{held_size, held}
 use Rattle.ring_edges.proofs.candidate.Statement.{statement}
 use Rattle.ring_edges.proofs.candidate.Tie as tie
 
-pub candidate-spec : {M : Type 1} → statement M
-candidate-spec =
+pub candidate_spec : {M : Type 1} → statement M
+candidate_spec =
     tie.close
     (tie.spec
     (λ c. search rules)

@@ -3,10 +3,10 @@ use borrow.Author.Rules.{rules}
 use Rattle.ring_edges.proofs.edge.Statement.{statement}
 use Rattle.ring_edges.proofs.edge.Tie as tie
 
-pub edge-spec : {M : Type 1} → statement M
+pub edge_spec : {M : Type 1} → statement M
 unfolding edge_at
-edge-spec =
+edge_spec =
     tie.close
     (tie.spec
     (λ c κs. search rules) (λ c κs. search rules) (λ c κs. search rules) (λ c κs. search rules)
-    (λ c. simp (c.at3.ensures, c.before.at2.ensures, c.before.before.next.ensures.0, c.before.before.before.at.ensures)))
+    (λ c. simp (c.at-normal.ensures, c.before.at-end.ensures, c.before.before.next.ensures.0, c.before.before.before.at-start.ensures)))

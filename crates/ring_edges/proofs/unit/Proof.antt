@@ -8,4 +8,4 @@ unfolding unit_at
 unit_spec =
     tie.close
     (tie.spec (λ c κs. search rules) (λ c κs. tt)
-    (λ c. simp (c.new-unit.ensures, c.before.raw.ensures)))
+    (λ c. simp (c.new_unit.ensures, c.before.raw-v.ensures)))

@@ -9,15 +9,15 @@ use Rattle.ring_edges.specs.Blocks.{product_at}
 use Rattle.ring_edges.proofs.write_products.Statement.{statement}
 use Rattle.ring_edges.proofs.write_products.Tie as tie
 
-abbrev invariant-loop : tie.invariant-loop
+abbrev invariant-loop : tie.invariant-loop-j
 invariant-loop normal normals from k out₀ j₀ out j = Fill 3 (λ i. coords (product_at normal normals (from + i))) k j out₀ out × (length out₀ ≡ 3 * k)
 
-abbrev decreases-loop : tie.decreases-loop
+abbrev decreases-loop : tie.decreases-loop-j
 decreases-loop normal normals from k out₀ j₀ out j = k - j
 
-pub write-products-spec : {M : Type 1} → statement M
+pub write_products_spec : {M : Type 1} → statement M
 unfolding product_at
-write-products-spec =
+write_products_spec =
     tie.close
     (tie.spec
     invariant-loop decreases-loop
@@ -28,7 +28,7 @@ write-products-spec =
     (λ c κs. search rules)
     (λ c. search rules)
     (λ c. search rules)
-    (λ c. let l = c.before.before.before.before.before.before.before.loop in
-    (fill_on l.invariant.0 (simp (c.before.before.put.ensures, c.before.before.before.stable-cross-prod.ensures, c.before.before.before.before.at.ensures)) (omega arith), l.invariant.1))
+    (λ c. let l = c.before.before.before.before.before.before.before.loop-j in
+    (fill_on l.invariant.0 (simp (c.before.before.put.ensures, c.before.before.before.stable_cross_prod.ensures, c.before.before.before.before.at.ensures)) (omega arith), l.invariant.1))
     (λ c. search rules)
-    (λ c. fill_all c.before.loop.invariant.0 (omega arith) c.before.loop.invariant.1))
+    (λ c. fill_all c.before.loop-j.invariant.0 (omega arith) c.before.loop-j.invariant.1))

@@ -5,12 +5,12 @@ use Rattle.ring_index.specs.Blocks.{block_end}
 use Rattle.ring_index.proofs.block_end.Statement.{statement}
 use Rattle.ring_index.proofs.block_end.Tie as tie
 
-pub block-end-spec : {M : Type 1} → statement M
+pub block_end_spec : {M : Type 1} → statement M
 unfolding block_end
-block-end-spec =
+block_end_spec =
     tie.close
     (tie.spec
     (λ c. search rules)
     (λ c. search rules)
-    (λ c. (simp (lt-ltb _ _ c.if1.true), omega arith, omega arith, omega arith))
-    (λ c. (simp (le-ltb _ _ c.if1.false), omega arith, omega arith, omega arith)))
+    (λ c. (simp (lt-ltb _ _ c.if-n-from-lt16.true), omega arith, omega arith, omega arith))
+    (λ c. (simp (le-ltb _ _ c.if-n-from-lt16.false), omega arith, omega arith, omega arith)))

@@ -4,8 +4,8 @@ use Rattle.ring_index.proofs.Rounds.{under, over}
 use Rattle.ring_index.proofs.previous.Statement.{statement}
 use Rattle.ring_index.proofs.previous.Tie as tie
 
-pub previous-spec : {M : Type 1} → statement M
-previous-spec =
+pub previous_spec : {M : Type 1} → statement M
+previous_spec =
     tie.close
     (tie.spec
     (λ c. search rules)

@@ -3,8 +3,8 @@ use Rattle.ring_index.proofs.Rounds.{under, over}
 use Rattle.ring_index.proofs.wrapped.Statement.{statement}
 use Rattle.ring_index.proofs.wrapped.Tie as tie
 
-pub wrapped-spec : {M : Type 1} → statement M
-wrapped-spec =
+pub wrapped_spec : {M : Type 1} → statement M
+wrapped_spec =
     tie.close
     (tie.spec
     (λ c. (over (omega arith) (omega arith), omega arith))

@@ -4,8 +4,8 @@ use borrow.Author.Rules.{rules}
 use Rattle.ring_insides.proofs.find_large.Statement.{statement}
 use Rattle.ring_insides.proofs.find_large.Tie as tie
 
-pub find-large-spec : {M : Type 1} → statement M
-find-large-spec =
+pub find_large_spec : {M : Type 1} → statement M
+find_large_spec =
     tie.close
     (tie.spec
     (λ c. search rules)

@@ -8,10 +8,10 @@ use Rattle.ring_cut.proofs.Lefts.{found, found_convex}
 use Rattle.ring_insides.proofs.find_means.Statement.{statement}
 use Rattle.ring_insides.proofs.find_means.Tie as tie
 
-abbrev invariant-loop : tie.invariant-loop
+abbrev invariant-loop : tie.invariant-loop-m
 invariant-loop ps ids₀ classes₀ apart₀ k₀ m₀ f₀ ids classes apart k m f = Seeking ps ids₀ classes₀ apart₀ ids classes apart k m f
 
-abbrev decreases-loop : tie.decreases-loop
+abbrev decreases-loop : tie.decreases-loop-m
 decreases-loop ps ids₀ classes₀ apart₀ k₀ m₀ f₀ ids classes apart k m f = m
 
 -- From where `list_apart` is called back to the start.
@@ -19,40 +19,40 @@ abbrev start_of : tie.After-list-apart-arg3 invariant-loop decreases-loop → ti
 start_of c = c.before.before.before.before.before.before.before
 
 -- From where `lowest_ear` is done back to the inside of the loop.
-abbrev inside_of : tie.After-lowest-ear invariant-loop decreases-loop → tie.In-loop invariant-loop decreases-loop
+abbrev inside_of : tie.After-lowest_ear-i invariant-loop decreases-loop → tie.In-loop-m invariant-loop decreases-loop
 inside_of c = c.before.before.before.before
 
 -- From where `is_both` is done back to where an ear is found.
-abbrev ear-of : tie.After-is-both invariant-loop decreases-loop → tie.Else1 invariant-loop decreases-loop
+abbrev ear-of : tie.After-is_both invariant-loop decreases-loop → tie.Else-i-m invariant-loop decreases-loop
 ear-of c = c.before.before.before.before
 
-list-apart-requires : tie.Need-list-apart-requires invariant-loop decreases-loop
+list-apart-requires : tie.Need-list_apart-count-requires invariant-loop decreases-loop
 list-apart-requires c κs = let given = (start_of c).pre in (given.0.below, given.2, given.0.few)
 
-loop-holds : tie.Need-loop-init invariant-loop decreases-loop
+loop-holds : tie.Need-loop-m-init invariant-loop decreases-loop
 loop-holds c =
     let listed = c.before.before in
     let given = (start_of listed.before).pre in
-    let list = listed.list-apart in
+    let list = listed.list_apart-count in
     begin given.0 given.1 (omega (arith, given.2, list.auto.1.1.0)) list.ensures
 
-lowest-ear-requires : tie.Need-lowest-ear-requires invariant-loop decreases-loop
-lowest-ear-requires c κs = let seeking = c.before.before.before.before.loop.invariant in (seeking.held.lent, seeking.listing.listed)
+lowest-ear-requires : tie.Need-lowest_ear-i-requires invariant-loop decreases-loop
+lowest-ear-requires c κs = let seeking = c.before.before.before.before.loop-m.invariant in (seeking.held.lent, seeking.listing.listed)
 
-returns : tie.Need-returns invariant-loop decreases-loop
+returns : tie.Need-returns-then-i-m invariant-loop decreases-loop
 returns c =
     let sought = c.before in
     let inside = inside_of sought in
-    stuck inside.before.loop.inv inside.loop-test.taken sought.lowest-ear.ensures c.if1.true
+    stuck inside.before.loop-m.invariant inside.loop-m-test.true sought.lowest_ear-i.ensures c.if-i-m.true
 
-mean-at-requires : tie.Need-mean-at-requires invariant-loop decreases-loop
+mean-at-requires : tie.Need-mean_at-requires invariant-loop decreases-loop
 mean-at-requires c κs =
     let ear = c.before in
     let sought = ear.before in
     let held = (inside_of sought).before.loop.inv.held in
-    (indexed held.lent, rw held.sized (found held sought.lowest-ear.ensures ear.if1.false), held.lent.few)
+    (indexed held.lent, rw held.sized (found held sought.lowest_ear-i.ensures ear.if-i-m.false), held.lent.few)
 
-returns-2 : tie.Need-returns-2 invariant-loop decreases-loop
+returns-2 : tie.Need-returns-then-is_both invariant-loop decreases-loop
 returns-2 c =
     let asked = c.before in
     let added = asked.before in
@@ -60,21 +60,21 @@ returns-2 c =
     let sought = ear.before in
     let inside = inside_of sought in
     both
-    inside.before.loop.inv inside.loop-test.taken
-    sought.lowest-ear.ensures ear.if1.left
-    (rw added.before.mean-at.ensures at added.with-mean.ensures) (sym asked.is-both.ensures ∙ c.if2.true)
+    inside.before.loop-m.invariant inside.loop-m-test.true
+    sought.lowest_ear-i.ensures ear.if-i-m.false
+    (rw added.before.mean_at.ensures at added.with_mean-f.ensures) (sym asked.is_both.ensures ∙ c.if-is_both.true)
 
-cut-apart-requires : tie.Need-cut-apart-requires invariant-loop decreases-loop
+cut-apart-requires : tie.Need-cut_apart-count-requires invariant-loop decreases-loop
 cut-apart-requires c κs =
     let ear = ear-of c.before.before.before.before in
     let sought = ear.before in
     let seeking = (inside_of sought).before.loop.inv in
     let held = seeking.held in
     let list = seeking.listing in
-    let lowest = sought.lowest-ear.ensures in
-    (held.lent, rw held.sized (found held lowest ear.if1.left), found_convex held lowest ear.if1.left, list.listed, list.few, list.room)
+    let lowest = sought.lowest_ear-i.ensures in
+    (held.lent, rw held.sized (found held lowest ear.if-i-m.false), found_convex held lowest ear.if-i-m.false, list.listed, list.few, list.room)
 
-loop-again : tie.Need-loop-preserved invariant-loop decreases-loop
+loop-again : tie.Need-loop-m-preserved invariant-loop decreases-loop
 loop-again c =
     let at_cut_lem = c.before.before.before.before.before.before in
     let asked = at_cut_lem.before.before.before.before.before in
@@ -82,24 +82,24 @@ loop-again c =
     let ear = ear-of asked in
     let sought = ear.before in
     let inside = inside_of sought in
-    let done = at_cut_lem.cut_apart in
+    let done = at_cut_lem.cut_apart-count in
     cut
-    inside.before.loop.inv inside.loop-test.taken
-    sought.lowest-ear.ensures ear.if1.left
-    (rw added.before.mean-at.ensures at added.with-mean.ensures)
+    inside.before.loop-m.invariant inside.loop-m-test.true
+    sought.lowest_ear-i.ensures ear.if-i-m.false
+    (rw added.before.mean_at.ensures at added.with_mean-f.ensures)
     refl done.ensures.0 done.auto.1.0 done.auto.1.1.0
     done.ensures.1 done.ensures.2 done.auto.1.1.1.0
 
-mean-at-requires-2 : tie.Need-mean-at-requires-2 invariant-loop decreases-loop
-mean-at-requires-2 c κs = let held = c.before.before.loop.invariant.held in (indexed held.lent, omega arith, held.lent.few)
+mean-at-requires-2 : tie.Need-mean_at-requires-2 invariant-loop decreases-loop
+mean-at-requires-2 c κs = let held = c.before.before.loop-m.invariant.held in (indexed held.lent, omega arith, held.lent.few)
 
-returns-3 : tie.Need-returns-3 invariant-loop decreases-loop
+returns-3 : tie.Need-returns invariant-loop decreases-loop
 returns-3 c =
     let found-mean = c.before in
-    finish found-mean.before.before.before.loop.invariant (search rules) (rw found-mean.mean-at2.ensures at c.with-mean2.ensures)
+    finish found-mean.before.before.before.loop-m.invariant (search rules) (rw found-mean.mean_at-2.ensures at c.with_mean.ensures)
 
-pub find-means-spec : {M : Type 1} → statement M
-find-means-spec =
+pub find_means_spec : {M : Type 1} → statement M
+find_means_spec =
     tie.close
     (tie.spec
     invariant-loop decreases-loop
@@ -108,7 +108,7 @@ find-means-spec =
     (λ c. search rules)
     (λ c. omega arith)
     (λ c. search rules)
-    (λ c. sym c.before.before.before.before.loop.invariant.listing.sized)
+    (λ c. sym c.before.before.before.before.loop-m.invariant.listing.sized)
     lowest-ear-requires
     (λ c. search rules)
     (λ c. search rules)

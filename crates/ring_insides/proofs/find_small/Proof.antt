@@ -4,8 +4,8 @@ use borrow.Author.Rules.{rules}
 use Rattle.ring_insides.proofs.find_small.Statement.{statement}
 use Rattle.ring_insides.proofs.find_small.Tie as tie
 
-pub find-small-spec : {M : Type 1} → statement M
-find-small-spec =
+pub find_small_spec : {M : Type 1} → statement M
+find_small_spec =
     tie.close
     (tie.spec
     (λ c. search rules)

@@ -7,51 +7,51 @@ use Rattle.ring_pair.specs.Contacts.{crosses, touches, any_crosses, any_touches,
 use Rattle.ring_pair.proofs.arc_contact.Statement.{statement}
 use Rattle.ring_pair.proofs.arc_contact.Tie as tie
 
-abbrev invariant-loop : tie.invariant-loop
+abbrev invariant-loop : tie.invariant-loop-from
 invariant-loop mode a others theirs m touched₀ from₀ touched from =
     Grade (crosses mode a others theirs m) (touches mode a others theirs m) m from touched (arc_contact mode a others theirs m)
 
-abbrev decreases-loop : tie.decreases-loop
+abbrev decreases-loop : tie.decreases-loop-from
 decreases-loop mode a others theirs m touched₀ from₀ touched from = m - from
 
-loop-holds : tie.Need-loop-init invariant-loop decreases-loop
+loop-holds : tie.Need-loop-from-init invariant-loop decreases-loop
 unfolding any_crosses any_touches
 loop-holds c = grade refl
 
-block-contact-requires : tie.Need-block-contact-requires invariant-loop decreases-loop
+block-contact-requires : tie.Need-block_contact-k-requires invariant-loop decreases-loop
 block-contact-requires c κs =
-    let block = c.block-end.ensures in
+    let block = c.block_end-to.ensures in
     (omega (arith, block.1), block.2, block.3, omega arith, omega arith, omega arith)
 
-returns : tie.Need-returns invariant-loop decreases-loop
+returns : tie.Need-returns-then-is_crossed invariant-loop decreases-loop
 returns c =
     let asked = c.before in
     let graded = asked.before in
     let ended = graded.before in
-    let block = ended.block-end.ensures in
-    let contact = graded.block-contact in
-    grade_part_hit ended.before.before.loop.invariant contact.result contact.ensures (omega (arith, block.1)) block.3
-    (sym asked.is-crossed.ensures ∙ c.if1.true)
+    let block = ended.block_end-to.ensures in
+    let contact = graded.block_contact-k in
+    grade_part_hit ended.before.before.loop-from.invariant contact.result contact.ensures (omega (arith, block.1)) block.3
+    (sym asked.is_crossed.ensures ∙ c.if-is_crossed.true)
 
-loop-less : tie.Need-loop-smaller invariant-loop decreases-loop
-loop-less c = omega (arith, c.before.before.before.before.block-end.ensures.1)
+loop-less : tie.Need-loop-from-smaller invariant-loop decreases-loop
+loop-less c = omega (arith, c.before.before.before.before.block_end-to.ensures.1)
 
-loop-again : tie.Need-loop-preserved invariant-loop decreases-loop
+loop-again : tie.Need-loop-from-preserved invariant-loop decreases-loop
 loop-again c =
     let passed = c.before in
     let asked = passed.before in
     let graded = asked.before in
     let ended = graded.before in
-    let block = ended.block-end.ensures in
-    let contact = graded.block-contact in
-    grade_part ended.before.before.loop.invariant contact.result contact.ensures (omega (arith, block.1)) block.3
-    (sym asked.is-crossed.ensures ∙ passed.if1.false) (simp c.is-touched.ensures)
+    let block = ended.block_end-to.ensures in
+    let contact = graded.block_contact-k in
+    grade_part ended.before.before.loop-from.invariant contact.result contact.ensures (omega (arith, block.1)) block.3
+    (sym asked.is_crossed.ensures ∙ passed.if-is_crossed.false) (simp c.is_touched-touched.ensures)
 
-returns-2 : tie.Need-returns-2 invariant-loop decreases-loop
-returns-2 c = c.uncrossed.ensures ∙ grade_end c.before.before.loop.invariant (omega arith)
+returns-2 : tie.Need-returns invariant-loop decreases-loop
+returns-2 c = c.uncrossed.ensures ∙ grade_end c.before.before.loop-from.invariant (omega arith)
 
-pub arc-contact-spec : {M : Type 1} → statement M
-arc-contact-spec =
+pub arc_contact_spec : {M : Type 1} → statement M
+arc_contact_spec =
     tie.close
     (tie.spec
     invariant-loop decreases-loop

@@ -2,9 +2,9 @@ use borrow.Author.Rules.{rules}
 use Rattle.ring_pair.proofs.as_middle.Statement.{statement}
 use Rattle.ring_pair.proofs.as_middle.Tie as tie
 
-pub as-middle-spec : {M : Type 1} → statement M
-as-middle-spec =
+pub as_middle_spec : {M : Type 1} → statement M
+as_middle_spec =
     tie.close
     (tie.spec
     (λ c. search rules) (λ c. search rules) (λ c. search rules)
-    (λ c. simp c.before.at.given.1))
+    (λ c. simp c.before.at-1.requires.1))

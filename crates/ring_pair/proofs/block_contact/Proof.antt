@@ -6,8 +6,8 @@ use Rattle.laws.proofs.Copies.{first_of_lem}
 use Rattle.ring_pair.proofs.block_contact.Statement.{statement}
 use Rattle.ring_pair.proofs.block_contact.Tie as tie
 
-pub block-contact-spec : {M : Type 1} → statement M
-block-contact-spec =
+pub block_contact_spec : {M : Type 1} → statement M
+block_contact_spec =
     tie.close
     (tie.spec
     (λ c. search rules) (λ c. search rules) (λ c. search rules)

@@ -6,22 +6,22 @@ use Rattle.ring_pair.specs.Probes.{free_corner, first_corner}
 use Rattle.ring_pair.proofs.first_corner.Statement.{statement}
 use Rattle.ring_pair.proofs.first_corner.Tie as tie
 
-abbrev invariant-loop : tie.invariant-loop
+abbrev invariant-loop : tie.invariant-loop-i
 invariant-loop probe n positions normals m i₀ i = Look (free_corner probe positions normals m) n i (first_corner probe n positions normals m)
 
-abbrev decreases-loop : tie.decreases-loop
+abbrev decreases-loop : tie.decreases-loop-i
 decreases-loop probe n positions normals m i₀ i = n - i
 
-pub first-corner-spec : {M : Type 1} → statement M
+pub first_corner_spec : {M : Type 1} → statement M
 unfolding first_corner
-first-corner-spec =
+first_corner_spec =
     tie.close
     (tie.spec
     invariant-loop decreases-loop
     (λ c. look)
     (λ c κs. search rules)
-    (λ c. look_hit c.before.before.before.loop.invariant c.before.free-corner.ensures (omega arith) c.if1.true)
+    (λ c. look_hit c.before.before.before.loop-i.invariant c.before.free_corner.ensures (omega arith) c.if-free_corner.true)
     (λ c. search rules)
     (λ c. search rules)
-    (λ c. look_on c.before.before.before.loop.invariant c.before.free-corner.ensures (omega arith) c.if1.false)
-    (λ c. look_end c.before.loop.invariant (omega arith)))
+    (λ c. look_on c.before.before.before.loop-i.invariant c.before.free_corner.ensures (omega arith) c.if-free_corner.false)
+    (λ c. look_end c.before.loop-i.invariant (omega arith)))

@@ -3,9 +3,9 @@ use borrow.Author.Rules.{rules}
 use Rattle.ring_pair.proofs.free_corner.Statement.{statement}
 use Rattle.ring_pair.proofs.free_corner.Tie as tie
 
-pub free-corner-spec : {M : Type 1} → statement M
+pub free_corner_spec : {M : Type 1} → statement M
 unfolding free_corner
-free-corner-spec =
+free_corner_spec =
     tie.close
     (tie.spec
     (λ c κs. search rules) (λ c κs. search rules)

@@ -2,9 +2,9 @@ use borrow.Author.Rules.{rules}
 use Rattle.ring_pair.proofs.free_point.Statement.{statement}
 use Rattle.ring_pair.proofs.free_point.Tie as tie
 
-pub free-point-spec : {M : Type 1} → statement M
-free-point-spec =
+pub free_point_spec : {M : Type 1} → statement M
+free_point_spec =
     tie.close
     (tie.spec
     (λ c. search rules) (λ c. search rules) (λ c κs. search rules) (λ c. search rules)
-    (λ c. simp (c.before.before.at.given.1, c.any_edge_contains_position.ensures)))
+    (λ c. simp (c.before.before.at-1.requires.1, c.any_edge_contains_position.ensures)))

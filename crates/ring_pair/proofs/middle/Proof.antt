@@ -3,10 +3,10 @@ use borrow.Author.Rules.{rules}
 use Rattle.ring_pair.proofs.middle.Statement.{statement}
 use Rattle.ring_pair.proofs.middle.Tie as tie
 
-pub middle-spec : {M : Type 1} → statement M
+pub middle_spec : {M : Type 1} → statement M
 unfolding middle_at
-middle-spec =
+middle_spec =
     tie.close
     (tie.spec
     (λ c κs. search rules) (λ c κs. search rules) (λ c κs. search rules) (λ c κs. search rules)
-    (λ c. simp (c.midpoint.ensures, c.before.at2.ensures, c.before.before.next.ensures.0, c.before.before.before.at.ensures)))
+    (λ c. simp (c.midpoint.ensures, c.before.at-2.ensures, c.before.before.next.ensures.0, c.before.before.before.at.ensures)))

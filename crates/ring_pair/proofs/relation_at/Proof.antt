@@ -8,26 +8,26 @@ use Rattle.ring_pair.proofs.Clearing.{not_so}
 use Rattle.ring_pair.proofs.relation_at.Statement.{statement}
 use Rattle.ring_pair.proofs.relation_at.Tie as tie
 
-returns : tie.Need-returns
+returns : tie.Need-returns-then-not-equals
 unfolding edge_at candidate_at
 returns c =
     let compared = c.before in
     let missing = compared.before in
     let asked = missing.before in
-    missed_disjoint _ _ _ asked.before.before.before.requires.4 (sym asked.misses.ensures ∙ missing.if1.true)
-    (sym compared.equals.ensures ∙ not_so compared.equals.result c.if2.true)
+    missed_disjoint _ _ _ asked.before.before.before.requires.4 (sym asked.misses.ensures ∙ missing.if-misses.true)
+    (sym compared.equals.ensures ∙ not_so compared.equals.result c.if-not-equals.true)
 
-relate-at-requires : tie.Need-relate-at-requires
+relate-at-requires : tie.Need-relate_at-requires
 unfolding edge_at candidate_at
 relate-at-requires c κs =
     let asked = c.before.before in
     simp c.edge.ensures asked.before.before.before.requires.4
 
-returns-2 : tie.Need-returns-2
-returns-2 c = simp (c.relate-at.ensures, c.before.edge.ensures)
+returns-2 : tie.Need-returns
+returns-2 c = simp (c.relate_at.ensures, c.before.edge.ensures)
 
-pub relation-at-spec : {M : Type 1} → statement M
-relation-at-spec =
+pub relation_at_spec : {M : Type 1} → statement M
+relation_at_spec =
     tie.close
     (tie.spec (λ c κs. tt) (λ c κs. tt)
     returns

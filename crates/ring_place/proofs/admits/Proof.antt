@@ -3,9 +3,9 @@ use borrow.Author.Rules.{rules}
 use Rattle.ring_place.proofs.admits.Statement.{statement}
 use Rattle.ring_place.proofs.admits.Tie as tie
 
-pub admits-spec : {M : Type 1} → statement M
-admits-spec =
+pub admits_spec : {M : Type 1} → statement M
+admits_spec =
     tie.close
     (tie.spec (λ c κs. search rules) (λ c. search rules) (λ c. search rules)
-    (λ c. simp (c.enum_told.given.1, c.before.before.contains_position.ensures))
-    (λ c. simp c.enum-told2.given.1))
+    (λ c. simp (c.enum_told-1.requires.1, c.before.before.contains_position-inside.ensures))
+    (λ c. simp c.enum_told-in-Long-1.requires.1))

@@ -3,10 +3,10 @@ use borrow.Author.Rules.{rules}
 use Rattle.ring_place.proofs.in_triangle.Statement.{statement}
 use Rattle.ring_place.proofs.in_triangle.Tie as tie
 
-pub in-triangle-spec : {M : Type 1} → statement M
+pub in_triangle_spec : {M : Type 1} → statement M
 unfolding in_triangle
-in-triangle-spec =
+in_triangle_spec =
     tie.close
     (tie.spec
     (λ c κs. search rules) (λ c κs. search rules) (λ c κs. search rules) (λ c κs. search rules)
-    (λ c. let t = c.before.before in simp (c.is-within3.ensures, c.before.is-within2.ensures, t.is_Within.ensures, t.before.has-vertex.ensures)))
+    (λ c. let t = c.before.before in simp (c.is_within-3.ensures, c.before.is_within-2.ensures, t.is_Within.ensures, t.before.has_vertex-corner.ensures)))

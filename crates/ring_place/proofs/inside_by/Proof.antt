@@ -4,15 +4,15 @@ use borrow.Author.Rules.{rules}
 use Rattle.ring_place.proofs.inside_by.Statement.{statement}
 use Rattle.ring_place.proofs.inside_by.Tie as tie
 
-returns : tie.Need-returns
+returns : tie.Need-returns-then-equals
 unfolding inside_by
 returns c =
     let second = c.before in
     let one = second.before in
     let capped = one.before in
-    simp (← capped.before.admits.ensures, capped.if1.true, ← one.equals.ensures, ← second.equals2.ensures, c.if2.true)
+    simp (← capped.before.admits.ensures, capped.if-admits.true, ← one.equals.ensures, ← second.equals-then-admits.ensures, c.if-equals.true)
 
-returns-2 : tie.Need-returns-2
+returns-2 : tie.Need-returns-then-admits
 unfolding inside_by
 returns-2 c =
     let arc = c.before in
@@ -23,21 +23,21 @@ returns-2 c =
     let capped = one.before in
     simp (
       ← capped.before.admits.ensures,
-      capped.if1.true,
+      capped.if-admits.true,
       ← one.equals.ensures,
-      ← second.equals2.ensures,
-      other.if2.false,
-      c.crossed-evenly.ensures,
+      ← second.equals-then-admits.ensures,
+      other.if-equals.false,
+      c.crossed_evenly.ensures,
       arc.new.ensures,
       start.from.ensures,
     )
 
-returns-3 : tie.Need-returns-3
+returns-3 : tie.Need-returns
 unfolding inside_by
-returns-3 c = simp (← c.before.admits.ensures, c.if1.false)
+returns-3 c = simp (← c.before.admits.ensures, c.if-admits.false)
 
-pub inside-by-spec : {M : Type 1} → statement M
-inside-by-spec =
+pub inside_by_spec : {M : Type 1} → statement M
+inside_by_spec =
     tie.close
     (tie.spec
     (λ c κs. search rules) (λ c κs. search rules) (λ c κs. search rules)

@@ -2,9 +2,9 @@ use borrow.Author.Rules.{rules}
 use Rattle.ring_place.proofs.is_within.Statement.{statement}
 use Rattle.ring_place.proofs.is_within.Tie as tie
 
-pub is-within-spec : {M : Type 1} → statement M
-is-within-spec =
+pub is_within_spec : {M : Type 1} → statement M
+is_within_spec =
     tie.close
     (tie.spec
     (λ c κs. search rules) (λ c κs. search rules)
-    (λ c. simp (c.dot-prod.ensures, c.before.at.ensures)))
+    (λ c. simp (c.dot_prod.ensures, c.before.at.ensures)))

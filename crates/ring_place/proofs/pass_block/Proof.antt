@@ -6,8 +6,8 @@ use Rattle.laws.proofs.Copies.{first_of_lem}
 use Rattle.ring_place.proofs.pass_block.Statement.{statement}
 use Rattle.ring_place.proofs.pass_block.Tie as tie
 
-pub pass-block-spec : {M : Type 1} → statement M
-pass-block-spec =
+pub pass_block_spec : {M : Type 1} → statement M
+pass_block_spec =
     tie.close
     (tie.spec
     (λ c. search rules) (λ c. search rules) (λ c. search rules)

@@ -9,34 +9,34 @@ use Rattle.ring_place.specs.Places.{pass}
 use Rattle.ring_place.proofs.pass_edges.Statement.{statement}
 use Rattle.ring_place.proofs.pass_edges.Tie as tie
 
-abbrev invariant-loop : tie.invariant-loop
+abbrev invariant-loop : tie.invariant-loop-i
 invariant-loop mode arc positions normals n from to candidates s₀ i₀ s i =
     Iterate (pass mode arc positions normals n) to i s (iterate (pass mode arc positions normals n) (to - from) from s₀) × (from ≤ i)
 
-abbrev decreases-loop : tie.decreases-loop
+abbrev decreases-loop : tie.decreases-loop-i
 decreases-loop mode arc positions normals n from to candidates s₀ i₀ s i = to - i
 
-candidate-requires : tie.Need-candidate-requires invariant-loop decreases-loop
+candidate-requires : tie.Need-candidate-c-requires invariant-loop decreases-loop
 candidate-requires c κs =
     let head = c.before in
-    (omega (arith, head.loop.invariant.1), omega arith, omega arith, head.before.before.before.before.requires.5)
+    (omega (arith, head.loop-i.invariant.1), omega arith, omega arith, head.before.before.before.before.requires.5)
 
-loop-again : tie.Need-loop-preserved invariant-loop decreases-loop
+loop-again : tie.Need-loop-i-preserved invariant-loop decreases-loop
 loop-again c =
     let met = c.before in
-    let inv = met.before.before.before.loop.invariant in
-    (iterate_on inv.0 (simp (c.passed.ensures, met.point_at.ensures)) (omega arith), omega (arith, inv.1))
+    let inv = met.before.before.before.loop-i.invariant in
+    (iterate_on inv.0 (simp (c.passed-s.ensures, met.point_at.ensures)) (omega arith), omega (arith, inv.1))
 
-pub pass-edges-spec : {M : Type 1} → statement M
-pass-edges-spec =
+pub pass_edges_spec : {M : Type 1} → statement M
+pass_edges_spec =
     tie.close
     (tie.spec
     invariant-loop decreases-loop
     (λ c. (iterate_from (omega arith) refl, omega arith))
     candidate-requires
-    (λ c κs. (omega arith, omega arith, omega arith, omega arith, c.candidate.ensures))
+    (λ c κs. (omega arith, omega arith, omega arith, omega arith, c.candidate-c.ensures))
     (λ c κs. search rules)
     (λ c. search rules)
     (λ c. search rules)
     loop-again
-    (λ c. iterate_end c.before.loop.invariant.0 (omega arith)))
+    (λ c. iterate_end c.before.loop-i.invariant.0 (omega arith)))

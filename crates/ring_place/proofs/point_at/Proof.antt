@@ -7,32 +7,32 @@ use Rattle.ring_edges.specs.Blocks.{candidate_at}
 use Rattle.ring_place.proofs.point_at.Statement.{statement}
 use Rattle.ring_place.proofs.point_at.Tie as tie
 
-returns : tie.Need-returns
+returns : tie.Need-returns-then-misses
 unfolding edge_at candidate_at
 returns c =
     let asked = c.before in
-    missed_none _ _ _ asked.before.before.before.requires.4 (sym asked.misses.ensures ∙ c.if1.true)
+    missed_none _ _ _ asked.before.before.before.requires.4 (sym asked.misses.ensures ∙ c.if-misses.true)
 
-returns-2 : tie.Need-returns-2
+returns-2 : tie.Need-returns-then-misses_other
 unfolding edge_at candidate_at
 returns-2 c =
     let asked = c.before in
     let drawn = asked.before in
     let start = drawn.before.before.before.before.before in
-    missed_other_none _ _ _ start.requires.4 (simp drawn.edge.ensures at (sym asked.misses-other.ensures) ∙ c.if2.true)
+    missed_other_none _ _ _ start.requires.4 (simp drawn.edge-edge.ensures at (sym asked.misses_other.ensures) ∙ c.if-misses_other.true)
 
-intersection-at-requires : tie.Need-intersection-at-requires
+intersection-at-requires : tie.Need-intersection_at-requires
 unfolding edge_at candidate_at
 intersection-at-requires c κs =
     let drawn = c.before.before in
     let start = drawn.before.before.before.before.before in
-    simp drawn.edge.ensures start.requires.4
+    simp drawn.edge-edge.ensures start.requires.4
 
-returns-3 : tie.Need-returns-3
-returns-3 c = simp (c.intersection-at.ensures, c.before.before.before.edge.ensures)
+returns-3 : tie.Need-returns
+returns-3 c = simp (c.intersection_at.ensures, c.before.before.before.edge-edge.ensures)
 
-pub point-at-spec : {M : Type 1} → statement M
-point-at-spec =
+pub point_at_spec : {M : Type 1} → statement M
+point_at_spec =
     tie.close
     (tie.spec (λ c κs. tt)
     returns

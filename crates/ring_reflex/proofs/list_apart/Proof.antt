@@ -6,14 +6,14 @@ use Rattle.ring_reflex.proofs.Aparts.{Listed, listed, listed_on, listed_end}
 use Rattle.ring_reflex.proofs.list_apart.Statement.{statement}
 use Rattle.ring_reflex.proofs.list_apart.Tie as tie
 
-abbrev invariant-loop : tie.invariant-loop
+abbrev invariant-loop : tie.invariant-loop-j
 invariant-loop ids classes apart₀ k₀ j₀ j-end apart k j = Listed ids classes apart₀ apart k j
 
-abbrev decreases-loop : tie.decreases-loop
+abbrev decreases-loop : tie.decreases-loop-j
 decreases-loop ids classes apart₀ k₀ j₀ j-end apart k j = length ids - j
 
-pub list-apart-spec : {M : Type 1} → statement M
-list-apart-spec =
+pub list_apart_spec : {M : Type 1} → statement M
+list_apart_spec =
     tie.close
     (tie.spec
     invariant-loop decreases-loop
@@ -26,6 +26,6 @@ list-apart-spec =
     (λ c κs. search rules)
     (λ c. search rules)
     (λ c. search rules)
-    (λ c. listed_on c.before.before.before.before.loop.invariant refl c.before.is_convex.ensures c.past.ensures (search rules) c.before.before.before.before.before.before.before.before.requires.1)
+    (λ c. listed_on c.before.before.before.before.loop-j.invariant refl c.before.is_convex.ensures c.past-k.ensures (search rules) c.before.before.before.before.before.before.before.before.requires.1)
     (λ c. search rules)
-    (λ c. listed_end c.before.loop.invariant (search rules)))
+    (λ c. listed_end c.before.loop-j.invariant (search rules)))

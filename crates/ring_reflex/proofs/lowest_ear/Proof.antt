@@ -7,14 +7,14 @@ use Rattle.ring_reflex.specs.Lowest.{lowest}
 use Rattle.ring_reflex.proofs.lowest_ear.Statement.{statement}
 use Rattle.ring_reflex.proofs.lowest_ear.Tie as tie
 
-abbrev invariant-loop : tie.invariant-loop
+abbrev invariant-loop : tie.invariant-loop-i
 invariant-loop ps ids classes apart i₀ i-end i = Look (ear ps ids classes) (length ids) i (lowest ps ids classes)
 
-abbrev decreases-loop : tie.decreases-loop
+abbrev decreases-loop : tie.decreases-loop-i
 decreases-loop ps ids classes apart i₀ i-end i = length ids - i
 
-pub lowest-ear-spec : {M : Type 1} → statement M
-lowest-ear-spec =
+pub lowest_ear_spec : {M : Type 1} → statement M
+lowest_ear_spec =
     tie.close
     (tie.spec
     invariant-loop decreases-loop

@@ -2,8 +2,8 @@ use borrow.Author.Rules.{rules}
 use Rattle.ring_reflex.proofs.past.Statement.{statement}
 use Rattle.ring_reflex.proofs.past.Tie as tie
 
-pub past-spec : {M : Type 1} → statement M
-past-spec =
+pub past_spec : {M : Type 1} → statement M
+past_spec =
     tie.close
     (tie.spec
-    (λ c. search rules) (λ c. simp c.if1.true) (λ c. simp c.if1.false))
+    (λ c. search rules) (λ c. simp c.if-passed.true) (λ c. simp c.if-passed.false))

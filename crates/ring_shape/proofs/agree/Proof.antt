@@ -3,10 +3,10 @@ use borrow.Author.Rules.{rules}
 use Rattle.ring_shape.proofs.agree.Statement.{statement}
 use Rattle.ring_shape.proofs.agree.Tie as tie
 
-pub agree-spec : {M : Type 1} → statement M
+pub agree_spec : {M : Type 1} → statement M
 unfolding agree
-agree-spec =
+agree_spec =
     tie.close
     (tie.spec
     (λ c κs. search rules) (λ c κs. search rules) (λ c κs. search rules) (λ c. search rules) (λ c. search rules)
-    (λ c. let t = c.before.before in simp (t.equals.ensures, t.before.at2.ensures, t.before.before.at.ensures)))
+    (λ c. let t = c.before.before in simp (t.equals.ensures, t.before.at-2.ensures, t.before.before.at.ensures)))

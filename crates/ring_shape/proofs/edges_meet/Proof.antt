@@ -3,10 +3,10 @@ use borrow.Author.Rules.{rules}
 use Rattle.ring_shape.proofs.edges_meet.Statement.{statement}
 use Rattle.ring_shape.proofs.edges_meet.Tie as tie
 
-pub edges-meet-spec : {M : Type 1} → statement M
+pub edges_meet_spec : {M : Type 1} → statement M
 unfolding edges_meet
-edges-meet-spec =
+edges_meet_spec =
     tie.close
     (tie.spec
     (λ c κs. search rules) (λ c κs. search rules) (λ c κs. search rules) (λ c κs. search rules)
-    (λ c. simp (c.is-there.ensures, c.before.intersection.ensures, c.before.before.edge2.ensures, c.before.before.before.edge.ensures)))
+    (λ c. simp (c.is_there.ensures, c.before.intersection.ensures, c.before.before.edge-2.ensures, c.before.before.before.edge.ensures)))

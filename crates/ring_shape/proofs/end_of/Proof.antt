@@ -5,11 +5,11 @@ use borrow.Author.Rules.{rules}
 use Rattle.ring_shape.proofs.end_of.Statement.{statement}
 use Rattle.ring_shape.proofs.end_of.Tie as tie
 
-pub end-of-spec : {M : Type 1} → statement M
+pub end_of_spec : {M : Type 1} → statement M
 unfolding end_of
-end-of-spec =
+end_of_spec =
     tie.close
     (tie.spec
     (λ c. search rules)
-    (λ c. (simp (eq-eqb _ _ c.if1.true), omega arith, omega arith))
-    (λ c. (simp (ne_eqb _ _ c.if1.false), omega arith, omega arith)))
+    (λ c. (simp (eq-eqb _ _ c.if-i-eq0.true), omega arith, omega arith))
+    (λ c. (simp (ne_eqb _ _ c.if-i-eq0.false), omega arith, omega arith)))

@@ -4,12 +4,12 @@ use borrow.Author.Rules.{rules}
 use Rattle.ring_shape.proofs.is_convex.Statement.{statement}
 use Rattle.ring_shape.proofs.is_convex.Tie as tie
 
-pub is-convex-spec : {M : Type 1} → statement M
+pub is_convex_spec : {M : Type 1} → statement M
 unfolding convex
-is-convex-spec =
+is_convex_spec =
     tie.close
     (tie.spec
-    (λ c. simp (le-leb _ _ c.if1.true))
+    (λ c. simp (le-leb _ _ c.if-n-le3.true))
     (λ c κs. search rules) (λ c κs. search rules)
-    (λ c. let t = c.before.before in simp (lt-leb _ _ t.before.if1.false, ← t.any-side.ensures, c.before.if2.true, c.any-side2.ensures))
-    (λ c. simp (lt-leb _ _ c.before.before.if1.false, ← c.before.any-side.ensures, c.if2.false)))
+    (λ c. let t = c.before.before in simp (lt-leb _ _ t.before.if-n-le3.false, ← t.any_side.ensures, c.before.if-any_side.true, c.any_side-then-any_side.ensures))
+    (λ c. simp (lt-leb _ _ c.before.before.if-n-le3.false, ← c.before.any_side.ensures, c.if-any_side.false)))

@@ -7,28 +7,28 @@ use Rattle.ring_shape.specs.Shapes.{edges_meet, meets_later}
 use Rattle.ring_shape.proofs.meets_later.Statement.{statement}
 use Rattle.ring_shape.proofs.meets_later.Tie as tie
 
-abbrev invariant-loop : tie.invariant-loop
+abbrev invariant-loop : tie.invariant-loop-j
 invariant-loop mode positions normals n i end j₀ j = Any (edges_meet mode positions normals n i) end j (meets_later mode positions normals n i)
 
-abbrev decreases-loop : tie.decreases-loop
+abbrev decreases-loop : tie.decreases-loop-j
 decreases-loop mode positions normals n i end j₀ j = end - j
 
-loop-holds : tie.Need-loop-init invariant-loop decreases-loop
+loop-holds : tie.Need-loop-j-init invariant-loop decreases-loop
 unfolding meets_later
 loop-holds c = record { within = omega arith; rest = simp c.end_of_lem.ensures.0 }
 
-returns : tie.Need-returns invariant-loop decreases-loop
+returns : tie.Need-returns-then-edges_meet invariant-loop decreases-loop
 returns c =
     let asked = c.before in
-    any_hit asked.before.before.loop.invariant asked.edges-meet.ensures (omega arith) c.if1.true
+    any_hit asked.before.before.loop-j.invariant asked.edges_meet.ensures (omega arith) c.if-edges_meet.true
 
-loop-again : tie.Need-loop-preserved invariant-loop decreases-loop
+loop-again : tie.Need-loop-j-preserved invariant-loop decreases-loop
 loop-again c =
     let asked = c.before in
-    any_on asked.before.before.loop.invariant asked.edges-meet.ensures (omega arith) c.if1.false
+    any_on asked.before.before.loop-j.invariant asked.edges_meet.ensures (omega arith) c.if-edges_meet.false
 
-pub meets-later-spec : {M : Type 1} → statement M
-meets-later-spec =
+pub meets_later_spec : {M : Type 1} → statement M
+meets_later_spec =
     tie.close
     (tie.spec
     invariant-loop decreases-loop
@@ -40,4 +40,4 @@ meets-later-spec =
     (λ c. search rules)
     (λ c. search rules)
     loop-again
-    (λ c. any_end c.before.loop.invariant (omega arith)))
+    (λ c. any_end c.before.loop-j.invariant (omega arith)))

@@ -6,22 +6,22 @@ use Rattle.ring_shape.specs.Shapes.{same_from, same_rings}
 use Rattle.ring_shape.proofs.same_rings.Statement.{statement}
 use Rattle.ring_shape.proofs.same_rings.Tie as tie
 
-abbrev invariant-loop : tie.invariant-loop
+abbrev invariant-loop : tie.invariant-loop-offset
 invariant-loop positions classes others theirs n offset₀ offset = Any (same_from positions classes others theirs n) n offset (same_rings positions classes others theirs n)
 
-abbrev decreases-loop : tie.decreases-loop
+abbrev decreases-loop : tie.decreases-loop-offset
 decreases-loop positions classes others theirs n offset₀ offset = n - offset
 
-pub same-rings-spec : {M : Type 1} → statement M
+pub same_rings_spec : {M : Type 1} → statement M
 unfolding same_rings
-same-rings-spec =
+same_rings_spec =
     tie.close
     (tie.spec
     invariant-loop decreases-loop
     (λ c. any)
     (λ c κs. search rules)
-    (λ c. any_hit c.before.before.before.loop.invariant c.before.same_from.ensures (omega arith) c.if1.true)
+    (λ c. any_hit c.before.before.before.loop-offset.invariant c.before.same_from.ensures (omega arith) c.if-same_from.true)
     (λ c. search rules)
     (λ c. search rules)
-    (λ c. any_on c.before.before.before.loop.invariant c.before.same_from.ensures (omega arith) c.if1.false)
-    (λ c. any_end c.before.loop.invariant (omega arith)))
+    (λ c. any_on c.before.before.before.loop-offset.invariant c.before.same_from.ensures (omega arith) c.if-same_from.false)
+    (λ c. any_end c.before.loop-offset.invariant (omega arith)))

@@ -3,10 +3,10 @@ use borrow.Author.Rules.{rules}
 use Rattle.ring_triangle.proofs.is_corner.Statement.{statement}
 use Rattle.ring_triangle.proofs.is_corner.Tie as tie
 
-pub is-corner-spec : {M : Type 1} → statement M
+pub is_corner_spec : {M : Type 1} → statement M
 unfolding is_corner
-is-corner-spec =
+is_corner_spec =
     tie.close
     (tie.spec
     (λ c κs. search rules) (λ c κs. search rules) (λ c κs. search rules)
-    (λ c. simp (c.equals3.ensures, c.before.equals2.ensures, c.before.before.equals.ensures)))
+    (λ c. simp (c.equals-3.ensures, c.before.equals-2.ensures, c.before.before.equals.ensures)))

@@ -6,8 +6,8 @@ use Rattle.laws.proofs.Copies.{first_of_lem}
 use Rattle.ring_turns.proofs.add_block.Statement.{statement}
 use Rattle.ring_turns.proofs.add_block.Tie as tie
 
-pub add-block-spec : {M : Type 1} → statement M
-add-block-spec =
+pub add_block_spec : {M : Type 1} → statement M
+add_block_spec =
     tie.close
     (tie.spec
     (λ c. search rules) (λ c. search rules)

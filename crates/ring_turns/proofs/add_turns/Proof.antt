@@ -8,22 +8,22 @@ use Rattle.ring_turns.specs.Turns.{plus_turn}
 use Rattle.ring_turns.proofs.add_turns.Statement.{statement}
 use Rattle.ring_turns.proofs.add_turns.Tie as tie
 
-abbrev invariant-loop : tie.invariant-loop
+abbrev invariant-loop : tie.invariant-loop-i
 invariant-loop list edges n sines parts from to sum₀ i₀ sum i = Iterate (plus_turn list n) to i sum (iterate (plus_turn list n) (to - from) from sum₀) × (from ≤ i)
 
-abbrev decreases-loop : tie.decreases-loop
+abbrev decreases-loop : tie.decreases-loop-i
 decreases-loop list edges n sines parts from to sum₀ i₀ sum i = to - i
 
-pub add-turns-spec : {M : Type 1} → statement M
-add-turns-spec =
+pub add_turns_spec : {M : Type 1} → statement M
+add_turns_spec =
     tie.close
     (tie.spec
     invariant-loop decreases-loop
     (λ c. (iterate_from (omega arith) refl, omega arith))
-    (λ c κs. let p = c.before.before.before.before.before.before.requires in (c.before.loop.invariant.1, omega arith, omega arith, omega arith, p.3, p.4, p.5))
+    (λ c κs. let p = c.before.before.before.before.before.before.requires in (c.before.loop-i.invariant.1, omega arith, omega arith, omega arith, p.3, p.4, p.5))
     (λ c κs. tt)
     (λ c. search rules)
     (λ c. search rules)
-    (λ c. let l = c.before.before.before.loop in
-    (iterate_on l.invariant.0 (simp (c.add.ensures, c.before.turn.ensures)) (omega arith), omega (arith, l.invariant.1)))
-    (λ c. iterate_end c.before.loop.invariant.0 (omega arith)))
+    (λ c. let l = c.before.before.before.loop-i in
+    (iterate_on l.invariant.0 (simp (c.add-sum.ensures, c.before.turn.ensures)) (omega arith), omega (arith, l.invariant.1)))
+    (λ c. iterate_end c.before.loop-i.invariant.0 (omega arith)))

@@ -2,8 +2,8 @@ use borrow.Author.Rules.{rules}
 use Rattle.ring_turns.proofs.add_with.Statement.{statement}
 use Rattle.ring_turns.proofs.add_with.Tie as tie
 
-pub add-with-spec : {M : Type 1} → statement M
-add-with-spec =
+pub add_with_spec : {M : Type 1} → statement M
+add_with_spec =
     tie.close
     (tie.spec
     (λ c. search rules)

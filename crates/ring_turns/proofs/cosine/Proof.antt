@@ -3,10 +3,10 @@ use borrow.Author.Rules.{rules}
 use Rattle.ring_turns.proofs.cosine.Statement.{statement}
 use Rattle.ring_turns.proofs.cosine.Tie as tie
 
-pub cosine-spec : {M : Type 1} → statement M
+pub cosine_spec : {M : Type 1} → statement M
 unfolding cosine_at
-cosine-spec =
+cosine_spec =
     tie.close
     (tie.spec
     (λ c κs. search rules) (λ c κs. search rules) (λ c κs. search rules) (λ c κs. tt)
-    (λ c. simp (c.dot-prod.ensures, c.before.edge2.ensures, c.before.before.edge.ensures, c.before.before.before.next.ensures.0)))
+    (λ c. simp (c.dot_prod.ensures, c.before.edge.ensures, c.before.before.edge-after.ensures, c.before.before.before.next.ensures.0)))

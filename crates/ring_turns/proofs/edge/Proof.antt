@@ -4,8 +4,8 @@ use mathlib.Core.Path.{◌∙◌}
 use Rattle.ring_turns.proofs.edge.Statement.{statement}
 use Rattle.ring_turns.proofs.edge.Tie as tie
 
-pub edge-spec : {M : Type 1} → statement M
-edge-spec =
+pub edge_spec : {M : Type 1} → statement M
+edge_spec =
     tie.close
     (tie.spec
     (λ c κs. omega (arith, edges_size _ _ c.before.before.requires.2))

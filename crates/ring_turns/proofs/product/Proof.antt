@@ -3,10 +3,10 @@ use borrow.Author.Rules.{rules}
 use Rattle.ring_turns.proofs.product.Statement.{statement}
 use Rattle.ring_turns.proofs.product.Tie as tie
 
-pub product-spec : {M : Type 1} → statement M
+pub product_spec : {M : Type 1} → statement M
 unfolding product_at
-product-spec =
+product_spec =
     tie.close
     (tie.spec
     (λ c κs. search rules) (λ c κs. search rules) (λ c κs. search rules) (λ c κs. search rules)
-    (λ c. simp (c.stable-cross-prod.ensures, c.before.at2.ensures, c.before.before.next.ensures.0, c.before.before.before.at.ensures)))
+    (λ c. simp (c.stable_cross_prod.ensures, c.before.at-2.ensures, c.before.before.next.ensures.0, c.before.before.before.at.ensures)))

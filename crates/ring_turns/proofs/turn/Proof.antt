@@ -17,4 +17,4 @@ turn_spec =
     (λ c. let p = c.before.before.before.before.before.before.before.requires in omega (arith, row_size (acute_at _ _) _ _ p.6, p.0, p.1))
     (λ c κs. tt)
     (λ c. let p = c.before.before.before.before.before.before.before.before.requires in
-    simp (c.angle-by.ensures, row_held (sine_at _ _) _ p.5 p.0 p.1, row_held (acute_at _ _) _ p.6 p.0 p.1, c.before.before.before.cosine.ensures) (turn_by _ _ _)))
+    simp (c.angle_by.ensures, row_held (sine_at _ _) _ p.5 p.0 p.1, row_held (acute_at _ _) _ p.6 p.0 p.1, c.before.before.before.cosine-x.ensures) (turn_by _ _ _)))

@@ -9,14 +9,14 @@ use Prim.Native.Nat.{◌+◌, ◌-◌}
 use Rattle.ring_turns.proofs.write_sines.Statement.{statement}
 use Rattle.ring_turns.proofs.write_sines.Tie as tie
 
-abbrev invariant-loop : tie.invariant-loop
+abbrev invariant-loop : tie.invariant-loop-j
 invariant-loop list edges n from k out₀ j₀ out j = Fill 1 (λ i. sine_at list n (from + i) ∷ []) k j out₀ out × (length out₀ ≡ k)
 
-abbrev decreases-loop : tie.decreases-loop
+abbrev decreases-loop : tie.decreases-loop-j
 decreases-loop list edges n from k out₀ j₀ out j = k - j
 
-pub write-sines-spec : {M : Type 1} → statement M
-write-sines-spec =
+pub write_sines_spec : {M : Type 1} → statement M
+write_sines_spec =
     tie.close
     (tie.spec
     invariant-loop decreases-loop
@@ -27,6 +27,6 @@ write-sines-spec =
     (λ c. search rules)
     (λ c. search rules)
     (λ c. search rules)
-    (λ c. (fill_on_one c.before.before.loop.invariant.0 refl (simp c.sine.ensures) (omega arith), c.before.before.loop.invariant.1))
+    (λ c. (fill_on_one c.before.before.loop-j.invariant.0 refl (simp c.sine.ensures) (omega arith), c.before.before.loop-j.invariant.1))
     (λ c. search rules)
-    (λ c. fill_all_one c.before.loop.invariant.0 (omega arith) c.before.loop.invariant.1))
+    (λ c. fill_all_one c.before.loop-j.invariant.0 (omega arith) c.before.loop-j.invariant.1))

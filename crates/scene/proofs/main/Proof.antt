@@ -6,15 +6,15 @@ use Rattle.input.specs.Reading.{Within}
 use Rattle.scene.proofs.main.Statement.{statement}
 use Rattle.scene.proofs.main.Tie as tie
 
-array-share-prefix-bytes : tie.Need-array-share-prefix-bytes
+array-share-prefix-bytes : tie.Need-slice_bounds-bytes-end
 array-share-prefix-bytes c =
     let r = c.before.before.before.before.read in
-    (subst (λ (x : Input). Within x r.new.0) c.before.n.given.1 r.ensures).0
+    (subst (λ (x : Input). Within x r.new.0) c.before.n-1.requires.1 r.ensures).0
 
-slice-aggregate-print : tie.Need-slice-aggregate-print
+slice-aggregate-print : tie.Need-slice_bounds-print-end
 slice-aggregate-print c =
     let r = c.before.before.before.before.before.read in
-    (subst (λ (x : Input). Within x r.new.0) c.before.before.n.given.1 r.ensures).1
+    (subst (λ (x : Input). Within x r.new.0) c.before.before.n-1.requires.1 r.ensures).1
 
 pub main_spec : {M : Type 1} → statement M
 main_spec =

@@ -3,8 +3,8 @@ use borrow.Author.Rules.{rules}
 use Rattle.scene_far.proofs.far_in.Statement.{statement}
 use Rattle.scene_far.proofs.far_in.Tie as tie
 
-pub far-in-spec : {M : Type 1} → statement M
-far-in-spec =
+pub far_in_spec : {M : Type 1} → statement M
+far_in_spec =
     tie.close
     (tie.spec
     (λ c. search rules) (λ c. search rules) (λ c. search rules) (λ c. search rules) (λ c. search rules)

@@ -3,10 +3,10 @@ use borrow.Author.Rules.{rules}
 use Rattle.scene_far.proofs.far_said.Statement.{statement}
 use Rattle.scene_far.proofs.far_said.Tie as tie
 
-pub far-said-spec : {M : Type 1} → statement M
-far-said-spec =
+pub far_said_spec : {M : Type 1} → statement M
+far_said_spec =
     tie.close
     (tie.spec
     (λ c. search rules) (λ c. search rules) (λ c κs. search rules)
-    (λ c. simp c.before.distance.given.1)
-    (λ c. simp (c.before.before.distance2.given.1, c.to-bits.ensures)))
+    (λ c. simp c.before.distance-1.requires.1)
+    (λ c. simp (c.before.before.distance-in-Chord-1.requires.1, c.to_bits.ensures)))

@@ -16,18 +16,18 @@ returns-line c =
     let at-space = at_count.before.before.before.before in
     let at-number = at-space.before.before.before.before.before in
     let at-word = at-number.before.before.before.before in
-    let word = at-word.put.ensures in
-    let number = at-number.put-number.ensures in
-    let space = at-space.put2.ensures in
-    let count = at_count.put-number2.ensures in
-    let marks = at-marks.put-marks.ensures in
-    let triangles = at-triangles.put-number3.ensures in
-    let end = at_end.put3.ensures in
+    let word = at-word.put-a.ensures in
+    let number = at-number.put_number-b.ensures in
+    let space = at-space.put-c.ensures in
+    let count = at_count.put_number-d.ensures in
+    let marks = at-marks.put_marks-e.ensures in
+    let triangles = at-triangles.put_number-f.ensures in
+    let end = at_end.put.ensures in
     let line = then (then (then (then (then (then word number.0) space) count.0) marks.0) triangles.0) end in
     (line, omega arith)
 
-pub put-area-spec : {M : Type 1} → statement M
-put-area-spec =
+pub put_area_spec : {M : Type 1} → statement M
+put_area_spec =
     tie.close
     (tie.spec
     (λ c. search rules) (λ c κs. search rules) (λ c κs. search rules) (λ c. search rules) (λ c κs. search rules)

@@ -12,13 +12,13 @@ returns-line c =
     let at_end = c.before.before in
     let at_records = at_end.before.before.before.before.before in
     let at-word = at_records.before.before.before.before in
-    let word = at-word.put.ensures in
-    let records = at_records.put-number.ensures in
-    let end = at_end.put2.ensures in
+    let word = at-word.put-a.ensures in
+    let records = at_records.put_number-b.ensures in
+    let end = at_end.put.ensures in
     (then (then word records.0) end, omega arith)
 
-pub put-end-spec : {M : Type 1} → statement M
-put-end-spec =
+pub put_end_spec : {M : Type 1} → statement M
+put_end_spec =
     tie.close
     (tie.spec
     (λ c. search rules) (λ c κs. search rules) (λ c κs. search rules) (λ c. search rules) (λ c κs. search rules)

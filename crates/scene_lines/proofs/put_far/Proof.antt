@@ -14,15 +14,15 @@ returns-line c =
     let at-space = at_bits.before.before.before.before in
     let at-number = at-space.before.before.before.before.before in
     let at-word = at-number.before.before.before.before in
-    let word = at-word.put.ensures in
-    let number = at-number.put-number.ensures in
-    let space = at-space.put2.ensures in
-    let bits = at_bits.put-bits.ensures in
-    let end = at_end.put3.ensures in
+    let word = at-word.put-a.ensures in
+    let number = at-number.put_number-b.ensures in
+    let space = at-space.put-c.ensures in
+    let bits = at_bits.put_bits-d.ensures in
+    let end = at_end.put.ensures in
     (then (then (then (then word number.0) space) bits.0) end, omega arith)
 
-pub put-far-spec : {M : Type 1} → statement M
-put-far-spec =
+pub put_far_spec : {M : Type 1} → statement M
+put_far_spec =
     tie.close
     (tie.spec
     (λ c. search rules) (λ c κs. search rules) (λ c κs. search rules) (λ c. search rules) (λ c κs. search rules)

@@ -4,57 +4,57 @@ use borrow.Author.Rules.{rules}
 use Rattle.scene_lines.proofs.put_line.Statement.{statement}
 use Rattle.scene_lines.proofs.put_line.Tie as tie
 
-returns-area : tie.Need-returns
+returns-area : tie.Need-returns-in-Area
 unfolding room_of
 returns-area c =
     let put = c.before.before in
-    let line = put.before.before.before.line.given.1 in
-    (simp line put.put-area.ensures.0, simp line put.put-area.ensures.1)
+    let line = put.before.before.before.line-1.requires.1 in
+    (simp line put.put_area.ensures.wrote, simp line put.put_area.ensures.upper_bound)
 
-returns-place : tie.Need-returns-2
+returns-place : tie.Need-returns-in-Place
 unfolding room_of
 returns-place c =
     let put = c.before.before in
-    let line = put.before.before.before.line2.given.1 in
-    (simp line put.put-place.ensures.0, simp line put.put-place.ensures.1)
+    let line = put.before.before.before.line-in-Place-1.requires.1 in
+    (simp line put.put_place.ensures.wrote, simp line put.put_place.ensures.upper_bound)
 
-returns-pair : tie.Need-returns-3
+returns-pair : tie.Need-returns-in-Pair
 unfolding room_of
 returns-pair c =
     let put = c.before.before in
-    let line = put.before.before.before.line3.given.1 in
-    (simp line put.put-pair.ensures.0, simp line put.put-pair.ensures.1)
+    let line = put.before.before.before.line-in-Pair-1.requires.1 in
+    (simp line put.put_pair.ensures.wrote, simp line put.put_pair.ensures.upper_bound)
 
-returns-far : tie.Need-returns-4
+returns-far : tie.Need-returns-in-Far
 unfolding room_of
 returns-far c =
     let put = c.before.before in
-    let line = put.before.before.before.line4.given.1 in
-    (simp line put.put-far.ensures.0, simp line put.put-far.ensures.1)
+    let line = put.before.before.before.line-in-Far-1.requires.1 in
+    (simp line put.put_far.ensures.wrote, simp line put.put_far.ensures.upper_bound)
 
-returns-end : tie.Need-returns-5
+returns-end : tie.Need-returns-in-End
 unfolding room_of
 returns-end c =
     let put = c.before.before in
-    let line = put.before.before.before.line5.given.1 in
-    (simp line put.put-end.ensures.0, simp line put.put-end.ensures.1)
+    let line = put.before.before.before.line-in-End-1.requires.1 in
+    (simp line put.put_end.ensures.wrote, simp line put.put_end.ensures.upper_bound)
 
-returns-refused : tie.Need-returns-6
+returns-refused : tie.Need-returns-in-Refused
 unfolding room_of
 returns-refused c =
     let put = c.before.before in
-    let line = put.before.before.before.line6.given.1 in
+    let line = put.before.before.before.line-in-Refused-1.requires.1 in
     (simp line put.Put-refused.ensures.0, simp line put.Put-refused.ensures.1)
 
-returns-refused-at : tie.Need-returns-7
+returns-refused-at : tie.Need-returns-in-RefusedAt
 unfolding room_of
 returns-refused-at c =
     let put = c.before.before in
-    let line = put.before.before.before.line7.given.1 in
-    (simp line put.put-refused-at.ensures.0, simp line put.put-refused-at.ensures.1)
+    let line = put.before.before.before.line-in-RefusedAt-1.requires.1 in
+    (simp line put.put_refused_at.ensures.wrote, simp line put.put_refused_at.ensures.upper_bound)
 
-pub put-line-spec : {M : Type 1} → statement M
-put-line-spec =
+pub put_line_spec : {M : Type 1} → statement M
+put_line_spec =
     tie.close
     (tie.spec
     (λ c. search rules) (λ c κs. search rules) (λ c. search rules) (λ c κs. search rules) (λ c. search rules)

@@ -10,14 +10,14 @@ returns-marks c =
     let at-sure = c.before.before in
     let at-turned = at-sure.before.before.before.before in
     let at-state = at-turned.before.before.before.before in
-    let state = at-state.put-state.ensures in
-    let turned = at-turned.put-turned.ensures in
-    let sure = at-sure.put-sure.ensures in
-    let state-word = simp at-state.before.is-mute.ensures at state.0 in
+    let state = at-state.put_state-a.ensures in
+    let turned = at-turned.put_turned-b.ensures in
+    let sure = at-sure.put_sure.ensures in
+    let state-word = simp at-state.before.is_mute.ensures at state.0 in
     (then (then state-word turned.0) sure.0, omega arith)
 
-pub put-marks-spec : {M : Type 1} → statement M
-put-marks-spec =
+pub put_marks_spec : {M : Type 1} → statement M
+put_marks_spec =
     tie.close
     (tie.spec
     (λ c κs. search rules) (λ c κs. search rules) (λ c κs. search rules) (λ c κs. search rules)

@@ -14,16 +14,16 @@ returns-line c =
     let at-space = at_second.before.before.before.before in
     let at_first = at-space.before.before.before.before.before in
     let at-word = at_first.before.before.before.before in
-    let word = at-word.put.ensures in
-    let first = at_first.put-number.ensures in
-    let space = at-space.put2.ensures in
-    let second = at_second.put-number2.ensures in
-    let relation = at-relation.put-relation.ensures in
+    let word = at-word.put-a.ensures in
+    let first = at_first.put_number-b.ensures in
+    let space = at-space.put-c.ensures in
+    let second = at_second.put_number-d.ensures in
+    let relation = at-relation.put_relation.ensures in
     let line = then (then (then (then word first.0) space) second.0) relation.0 in
     (line, omega arith)
 
-pub put-pair-spec : {M : Type 1} → statement M
-put-pair-spec =
+pub put_pair_spec : {M : Type 1} → statement M
+put_pair_spec =
     tie.close
     (tie.spec
     (λ c. search rules) (λ c κs. search rules) (λ c κs. search rules) (λ c. search rules) (λ c κs. search rules)

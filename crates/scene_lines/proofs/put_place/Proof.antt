@@ -12,13 +12,13 @@ returns-line c =
     let at-answer = c.before.before in
     let at-number = at-answer.before.before.before.before in
     let at-word = at-number.before.before.before.before in
-    let word = at-word.put.ensures in
-    let number = at-number.put-number.ensures in
-    let answer = at-answer.put-answer.ensures in
+    let word = at-word.put-a.ensures in
+    let number = at-number.put_number-b.ensures in
+    let answer = at-answer.put_answer.ensures in
     (then (then word number.0) answer.0, omega arith)
 
-pub put-place-spec : {M : Type 1} → statement M
-put-place-spec =
+pub put_place_spec : {M : Type 1} → statement M
+put_place_spec =
     tie.close
     (tie.spec
     (λ c. search rules) (λ c κs. search rules) (λ c κs. search rules) (λ c κs. search rules) (λ c. search rules)

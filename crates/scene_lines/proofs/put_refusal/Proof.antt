@@ -13,17 +13,17 @@ returns-words c =
     let at-between = at_offset.before.before.before.before in
     let at-number = at-between.before.before.before.before.before in
     let at-word = at-number.before.before.before.before in
-    let word = at-word.put.ensures in
-    let number = at-number.put-number.ensures in
-    let between = at-between.put2.ensures in
-    let offset = at_offset.put-number2.ensures in
-    let space = at-space.put3.ensures in
-    let field = at_field.put-number3.ensures in
+    let word = at-word.put-a.ensures in
+    let number = at-number.put_number-b.ensures in
+    let between = at-between.put-c.ensures in
+    let offset = at_offset.put_number-d.ensures in
+    let space = at-space.put-e.ensures in
+    let field = at_field.put_number.ensures in
     let words = then (then (then (then (then word number.0) between) offset.0) space) field.0 in
     (words, omega arith)
 
-pub put-refusal-spec : {M : Type 1} → statement M
-put-refusal-spec =
+pub put_refusal_spec : {M : Type 1} → statement M
+put_refusal_spec =
     tie.close
     (tie.spec
     (λ c. search rules) (λ c κs. search rules) (λ c κs. search rules) (λ c. search rules) (λ c κs. search rules)

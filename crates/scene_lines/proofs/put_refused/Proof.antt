@@ -11,9 +11,9 @@ unfolding refused_line
 returns-line c =
     let at_end = c.before.before in
     let at_words = at_end.before.before.before.before.before in
-    let words = at_words.put-refusal.ensures in
+    let words = at_words.put_refusal-a.ensures in
     let end = at_end.put.ensures in
     (then words.0 end, omega arith)
 
-pub put-refused-spec : {M : Type 1} → statement M
-put-refused-spec = tie.close (tie.spec (λ c κs. search rules) (λ c. search rules) (λ c κs. search rules) (λ c. search rules) returns-line)
+pub put_refused_spec : {M : Type 1} → statement M
+put_refused_spec = tie.close (tie.spec (λ c κs. search rules) (λ c. search rules) (λ c κs. search rules) (λ c. search rules) returns-line)

@@ -13,14 +13,14 @@ returns-line c =
     let at_index = at_end.before.before.before.before.before in
     let at-space = at_index.before.before.before.before in
     let at_words = at-space.before.before.before.before.before in
-    let words = at_words.put-refusal.ensures in
-    let space = at-space.put.ensures in
-    let index = at_index.put-number.ensures in
-    let end = at_end.put2.ensures in
+    let words = at_words.put_refusal-a.ensures in
+    let space = at-space.put-b.ensures in
+    let index = at_index.put_number-c.ensures in
+    let end = at_end.put.ensures in
     (then (then (then words.0 space) index.0) end, omega arith)
 
-pub put-refused-at-spec : {M : Type 1} → statement M
-put-refused-at-spec =
+pub put_refused_at_spec : {M : Type 1} → statement M
+put_refused_at_spec =
     tie.close
     (tie.spec
     (λ c κs. search rules) (λ c. search rules) (λ c κs. search rules) (λ c κs. search rules) (λ c. search rules)

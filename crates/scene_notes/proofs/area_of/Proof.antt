@@ -5,8 +5,8 @@ use borrow.Author.Rules.{rules}
 use Rattle.scene_notes.proofs.area_of.Statement.{statement}
 use Rattle.scene_notes.proofs.area_of.Tie as tie
 
-pub area-of-spec : {M : Type 1} → statement M
-area-of-spec =
+pub area_of_spec : {M : Type 1} → statement M
+area_of_spec =
     tie.close
     (tie.spec
     (λ c. search rules) (λ c. search rules)

@@ -9,28 +9,28 @@ use Rattle.scene_notes.specs.Noted.{is_past, first_past}
 use Rattle.scene_notes.proofs.first_unmet.Statement.{statement}
 use Rattle.scene_notes.proofs.first_unmet.Tie as tie
 
-abbrev invariant-loop : tie.invariant-loop
+abbrev invariant-loop : tie.invariant-loop-i
 invariant-loop met indexes i₀ i-end i = Look (is_past met indexes) (length indexes) i (first_past met indexes)
 
-abbrev decreases-loop : tie.decreases-loop
+abbrev decreases-loop : tie.decreases-loop-i
 decreases-loop met indexes i₀ i-end i = length indexes - i
 
-loop-holds : tie.Need-loop-init invariant-loop decreases-loop
+loop-holds : tie.Need-loop-i-init invariant-loop decreases-loop
 unfolding first_past
 loop-holds c = look
 
-returns-found : tie.Need-returns invariant-loop decreases-loop
+returns-found : tie.Need-returns-then-met-indexes invariant-loop decreases-loop
 returns-found c =
     let test = c.before.before in
-    look_hit test.before.loop.invariant refl test.loop-test.true (le-leb _ _ c.if1.true)
+    look_hit test.before.loop-i.invariant refl test.loop-i-test.true (le-leb _ _ c.if-met-indexes.true)
 
-loop-again : tie.Need-loop-preserved invariant-loop decreases-loop
+loop-again : tie.Need-loop-i-preserved invariant-loop decreases-loop
 loop-again c =
     let test = c.before.before in
-    look_on test.before.loop.invariant refl test.loop-test.true (lt-leb _ _ c.if1.false)
+    look_on test.before.loop-i.invariant refl test.loop-i-test.true (lt-leb _ _ c.if-met-indexes.false)
 
-pub first-unmet-spec : {M : Type 1} → statement M
-first-unmet-spec =
+pub first_unmet_spec : {M : Type 1} → statement M
+first_unmet_spec =
     tie.close
     (tie.spec
     invariant-loop decreases-loop
@@ -41,4 +41,4 @@ first-unmet-spec =
     (λ c. search kit)
     (λ c. search kit)
     loop-again
-    (λ c. look_end c.before.loop.invariant c.loop-test.false))
+    (λ c. look_end c.before.loop-i.invariant c.loop-i-test.false))

@@ -9,28 +9,28 @@ use Rattle.scene_notes.specs.Noted.{is_zero, first_zero}
 use Rattle.scene_notes.proofs.first_zero.Statement.{statement}
 use Rattle.scene_notes.proofs.first_zero.Tie as tie
 
-abbrev invariant-loop : tie.invariant-loop
+abbrev invariant-loop : tie.invariant-loop-i
 invariant-loop numbers i₀ i-end i = Look (is_zero numbers) (length numbers) i (first_zero numbers)
 
-abbrev decreases-loop : tie.decreases-loop
+abbrev decreases-loop : tie.decreases-loop-i
 decreases-loop numbers i₀ i-end i = length numbers - i
 
-loop-holds : tie.Need-loop-init invariant-loop decreases-loop
+loop-holds : tie.Need-loop-i-init invariant-loop decreases-loop
 unfolding first_zero
 loop-holds c = look
 
-returns-found : tie.Need-returns invariant-loop decreases-loop
+returns-found : tie.Need-returns-then-numbers-i-eq0 invariant-loop decreases-loop
 returns-found c =
     let test = c.before.before in
-    look_hit test.before.loop.invariant refl test.loop-test.true (eq-eqb _ _ c.if1.true)
+    look_hit test.before.loop-i.invariant refl test.loop-i-test.true (eq-eqb _ _ c.if-numbers-i-eq0.true)
 
-loop-again : tie.Need-loop-preserved invariant-loop decreases-loop
+loop-again : tie.Need-loop-i-preserved invariant-loop decreases-loop
 loop-again c =
     let test = c.before.before in
-    look_on test.before.loop.invariant refl test.loop-test.true (ne_eqb _ _ c.if1.false)
+    look_on test.before.loop-i.invariant refl test.loop-i-test.true (ne_eqb _ _ c.if-numbers-i-eq0.false)
 
-pub first-zero-spec : {M : Type 1} → statement M
-first-zero-spec =
+pub first_zero_spec : {M : Type 1} → statement M
+first_zero_spec =
     tie.close
     (tie.spec
     invariant-loop decreases-loop
@@ -41,4 +41,4 @@ first-zero-spec =
     (λ c. search kit)
     (λ c. search kit)
     loop-again
-    (λ c. look_end c.before.loop.invariant c.loop-test.false))
+    (λ c. look_end c.before.loop-i.invariant c.loop-i-test.false))

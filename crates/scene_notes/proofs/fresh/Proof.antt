@@ -4,6 +4,6 @@ use Rattle.scene_notes.specs.Noted.{no_areas}
 use Rattle.scene_notes.proofs.fresh.Statement.{statement}
 use Rattle.scene_notes.proofs.fresh.Tie as tie
 
-pub fresh-spec : {M : Type 1} → statement M
+pub fresh_spec : {M : Type 1} → statement M
 unfolding no_areas
-fresh-spec = tie.close (tie.spec (λ c κs. search rules) (λ c. simp c.empty.ensures))
+fresh_spec = tie.close (tie.spec (λ c κs. search rules) (λ c. simp c.empty.ensures))

@@ -10,34 +10,34 @@ use Rattle.scene_notes.proofs.Tables.{has, has_is, looks}
 use Rattle.scene_notes.proofs.index_of.Statement.{statement}
 use Rattle.scene_notes.proofs.index_of.Tie as tie
 
-abbrev invariant-loop : tie.invariant-loop
+abbrev invariant-loop : tie.invariant-loop-i
 invariant-loop number met areas i₀ i = (met ≤ 16) × (met ≤ length areas) × Look (has areas met number) met i (index_of (take met areas) number)
 
-abbrev decreases-loop : tie.decreases-loop
+abbrev decreases-loop : tie.decreases-loop-i
 decreases-loop number met areas i₀ i = met - i
 
-loop-holds : tie.Need-loop-init invariant-loop decreases-loop
+loop-holds : tie.Need-loop-i-init invariant-loop decreases-loop
 loop-holds c =
     let start = c.before in
-    let fits : start.args.c.met ≤ length start.args.c.areas = omega (arith, start.requires.size, start.requires.few) in
+    let fits : start.args.c.met ≤ length start.args.c.areas-1 = omega (arith, start.requires.size, start.requires.few) in
     (start.requires.few, fits, looks _ _ _ fits)
 
-returns-found : tie.Need-returns invariant-loop decreases-loop
+returns-found : tie.Need-returns-then-areas-i invariant-loop decreases-loop
 returns-found c =
     let turn = c.before in
-    let inv = turn.before.loop.invariant in
-    let entry = has_is _ _ _ _ _ turn.loop-test.true inv.1 in
-    (look_hit inv.2 entry turn.loop-test.true (eq-eqb _ _ c.if1.true), search rules)
+    let inv = turn.before.loop-i.invariant in
+    let entry = has_is _ _ _ _ _ turn.loop-i-test.true inv.1 in
+    (look_hit inv.2 entry turn.loop-i-test.true (eq-eqb _ _ c.if-areas-i.true), search rules)
 
-loop-again : tie.Need-loop-preserved invariant-loop decreases-loop
+loop-again : tie.Need-loop-i-preserved invariant-loop decreases-loop
 loop-again c =
     let turn = c.before in
-    let inv = turn.before.loop.invariant in
-    let entry = has_is _ _ _ _ _ turn.loop-test.true inv.1 in
-    (inv.0, inv.1, look_on inv.2 entry turn.loop-test.true (ne_eqb _ _ c.if1.false))
+    let inv = turn.before.loop-i.invariant in
+    let entry = has_is _ _ _ _ _ turn.loop-i-test.true inv.1 in
+    (inv.0, inv.1, look_on inv.2 entry turn.loop-i-test.true (ne_eqb _ _ c.if-areas-i.false))
 
-pub index-of-spec : {M : Type 1} → statement M
-index-of-spec =
+pub index_of_spec : {M : Type 1} → statement M
+index_of_spec =
     tie.close
     (tie.spec
     invariant-loop decreases-loop
@@ -48,4 +48,4 @@ index-of-spec =
     (λ c. search rules)
     (λ c. search rules)
     loop-again
-    (λ c. (look_end c.before.loop.invariant.2 c.loop-test.false, search rules)))
+    (λ c. (look_end c.before.loop-i.invariant.2 c.loop-i-test.false, search rules)))

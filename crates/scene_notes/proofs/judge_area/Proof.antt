@@ -6,54 +6,54 @@ use borrow.Author.Rules.{rules}
 use Rattle.scene_notes.proofs.judge_area.Statement.{statement}
 use Rattle.scene_notes.proofs.judge_area.Tie as tie
 
-returns-repeated : tie.Need-returns-2
+returns-repeated : tie.Need-returns-then-index_of-c
 unfolding judge_area
 returns-repeated c =
     let looked = c.before.before in
     let numbered = looked.before in
-    let number = ne_eqb _ _ numbered.if1.false in
+    let number = ne_eqb _ _ numbered.if-number-eq0.false in
     let count = met_count _ numbered.before.before.requires.0 in
-    simp (number, ← looked.index_of.ensures.0, count, lt-ltb _ _ c.if2.true)
+    simp (number, ← looked.index_of.ensures.value, count, lt-ltb _ _ c.if-index_of-c.true)
 
-returns-many-areas : tie.Need-returns-3
+returns-many-areas : tie.Need-returns-then-c-ge16
 unfolding judge_area
 returns-many-areas c =
     let new = c.before.before in
     let looked = new.before.before in
     let numbered = looked.before in
-    let number = ne_eqb _ _ numbered.if1.false in
+    let number = ne_eqb _ _ numbered.if-number-eq0.false in
     let count = met_count _ numbered.before.before.requires.0 in
-    simp (number, ← looked.index_of.ensures.0, count, le-ltb _ _ new.if2.false, le-leb _ _ c.if3.true)
+    simp (number, ← looked.index_of.ensures.value, count, le-ltb _ _ new.if-index_of-c.false, le-leb _ _ c.if-c-ge16.true)
 
-returns-many-positions : tie.Need-returns-4
+returns-many-positions : tie.Need-returns-then-c-count-gt1024
 unfolding judge_area
 returns-many-positions c =
     let few = c.before.before in
     let new = few.before.before in
     let looked = new.before.before in
     let numbered = looked.before in
-    let number = ne_eqb _ _ numbered.if1.false in
+    let number = ne_eqb _ _ numbered.if-number-eq0.false in
     let count = met_count _ numbered.before.before.requires.0 in
-    simp (number, ← looked.index_of.ensures.0, count, le-ltb _ _ new.if2.false, lt-leb _ _ few.if3.false, lt-ltb _ _ c.if4.true)
+    simp (number, ← looked.index_of.ensures.value, count, le-ltb _ _ new.if-index_of-c.false, lt-leb _ _ few.if-c-ge16.false, lt-ltb _ _ c.if-c-count-gt1024.true)
 
-returns-fine : tie.Need-returns-5
+returns-fine : tie.Need-returns
 unfolding judge_area
 returns-fine c =
     let few = c.before.before in
     let new = few.before.before in
     let looked = new.before.before in
     let numbered = looked.before in
-    let number = ne_eqb _ _ numbered.if1.false in
+    let number = ne_eqb _ _ numbered.if-number-eq0.false in
     let count = met_count _ numbered.before.before.requires.0 in
-    simp (number, ← looked.index_of.ensures.0, count, le-ltb _ _ new.if2.false, lt-leb _ _ few.if3.false, le-ltb _ _ c.if4.false)
+    simp (number, ← looked.index_of.ensures.value, count, le-ltb _ _ new.if-index_of-c.false, lt-leb _ _ few.if-c-ge16.false, le-ltb _ _ c.if-c-count-gt1024.false)
 
-pub judge-area-spec : {M : Type 1} → statement M
+pub judge_area_spec : {M : Type 1} → statement M
 unfolding judge_area
-judge-area-spec =
+judge_area_spec =
     tie.close
     (tie.spec
     (λ c. search rules)
-    (λ c. simp (eq-eqb _ _ c.if1.true))
+    (λ c. simp (eq-eqb _ _ c.if-number-eq0.true))
     (λ c κs. search rules)
     returns-repeated
     returns-many-areas

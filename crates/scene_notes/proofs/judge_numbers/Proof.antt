@@ -15,29 +15,29 @@ as_many : (met : ℕ) (indexes numbers : List ℕ) {i : ℕ} → i ≡ first_pas
 unfolding first_past
 as_many met indexes numbers e f = e ∙ ap (λ (n : ℕ). first_at (is_past met indexes) n 0) f
 
-returns-zero : tie.Need-returns
-returns-zero c = zero_judged _ _ _ c.before.first-zero.ensures c.if1.true
+returns-zero : tie.Need-returns-then-zero-numbers
+returns-zero c = zero_judged _ _ _ c.before.first_zero-zero.ensures c.if-zero-numbers.true
 
-returns-unmet : tie.Need-returns-2
+returns-unmet : tie.Need-returns-then-unmet-numbers
 returns-unmet c =
     let asked = c.before in
     let numbered = asked.before in
     let zero = numbered.before in
     let start = zero.before.before.before in
-    let unmet = as_many start.args.met start.args.indexes.now start.args.numbers.now asked.first-unmet.ensures start.requires.2 in
-    unmet_judged _ _ _ zero.first-zero.ensures numbered.if1.false unmet c.if2.true
+    let unmet = as_many start.args.met start.args.indexes.now start.args.numbers.now asked.first_unmet-unmet.ensures start.requires.2 in
+    unmet_judged _ _ _ zero.first_zero-zero.ensures numbered.if-zero-numbers.false unmet c.if-unmet-numbers.true
 
-returns-fine : tie.Need-returns-3
+returns-fine : tie.Need-returns
 returns-fine c =
     let asked = c.before in
     let numbered = asked.before in
     let zero = numbered.before in
     let start = zero.before.before.before in
-    let unmet = as_many start.args.met start.args.indexes.now start.args.numbers.now asked.first-unmet.ensures start.requires.2 in
-    fine_judged _ _ _ zero.first-zero.ensures numbered.if1.false unmet c.if2.false
+    let unmet = as_many start.args.met start.args.indexes.now start.args.numbers.now asked.first_unmet-unmet.ensures start.requires.2 in
+    fine_judged _ _ _ zero.first_zero-zero.ensures numbered.if-zero-numbers.false unmet c.if-unmet-numbers.false
 
-pub judge-numbers-spec : {M : Type 1} → statement M
-judge-numbers-spec =
+pub judge_numbers_spec : {M : Type 1} → statement M
+judge_numbers_spec =
     tie.close
     (tie.spec
     (λ c. search rules) (λ c κs. search rules) (λ c. search rules) (λ c. search rules)

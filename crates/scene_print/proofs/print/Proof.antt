@@ -5,11 +5,11 @@ use borrow.Author.Rules.{rules}
 use Rattle.scene_print.proofs.print.Statement.{statement}
 use Rattle.scene_print.proofs.print.Tie as tie
 
-slice-aggregate-print : tie.Need-slice-aggregate-print
-slice-aggregate-print c = let r = c.before.before.run in sym (length-take-le r.result r.new.1.0 (search rules))
+slice-aggregate-print : tie.Need-slice_bounds-print-end
+slice-aggregate-print c = let r = c.before.before.run-n in sym (length-take-le r.result r.new.1.0 (search rules))
 
-pub print-spec : {M : Type 1} → statement M
-print-spec =
+pub print_spec : {M : Type 1} → statement M
+print_spec =
     tie.close
     (tie.spec
     (λ c κs. search rules) (λ c. search rules) (λ c κs. search rules) (λ c. search rules) slice-aggregate-print

@@ -4,10 +4,10 @@ use borrow.Author.Rules.{rules}
 use Rattle.scene_records.proofs.area_at.Statement.{statement}
 use Rattle.scene_records.proofs.area_at.Tie as tie
 
-pub area-at-spec : {M : Type 1} → statement M
+pub area_at_spec : {M : Type 1} → statement M
 unfolding area_at
-area-at-spec =
+area_at_spec =
     tie.close
     (tie.spec
-    (λ c. simp (ne_eqb _ _ c.if1.true)) (λ c. search rules) (λ c κs. search rules)
-    (λ c. simp (eq-eqb _ _ c.before.if1.false, c.number_at.ensures)))
+    (λ c. simp (ne_eqb _ _ c.if-len-ne2.true)) (λ c. search rules) (λ c κs. search rules)
+    (λ c. simp (eq-eqb _ _ c.before.if-len-ne2.false, c.number_at.ensures)))

@@ -7,13 +7,13 @@ use borrow.Author.Rules.{rules}
 use Rattle.scene_records.proofs.first_refused.Statement.{statement}
 use Rattle.scene_records.proofs.first_refused.Tie as tie
 
-first-refused-of-requires : tie.Need-first-refused-of-requires
+first-refused-of-requires : tie.Need-first_refused_of-requires
 first-refused-of-requires c κs =
     let given = c.before.before.requires in
     (first_of_lem 3072 F.zero (omega (arith, given.0)), given.1)
 
-pub first-refused-spec : {M : Type 1} → statement M
-first-refused-spec =
+pub first_refused_spec : {M : Type 1} → statement M
+first_refused_spec =
     tie.close
     (tie.spec
     (λ c. search rules) (λ c. search rules)

@@ -5,10 +5,10 @@ use borrow.Author.Rules.{rules}
 use Rattle.scene_records.proofs.place_at.Statement.{statement}
 use Rattle.scene_records.proofs.place_at.Tie as tie
 
-pub place-at-spec : {M : Type 1} → statement M
+pub place_at_spec : {M : Type 1} → statement M
 unfolding place_at
-place-at-spec =
+place_at_spec =
     tie.close
     (tie.spec
-    (λ c. simp (ne_eqb _ _ c.if1.true)) (λ c. search rules) (λ c κs. search rules)
-    (λ c. simp (eq-eqb _ _ c.before.if1.false, c.number_at.ensures)))
+    (λ c. simp (ne_eqb _ _ c.if-len-ne26.true)) (λ c. search rules) (λ c κs. search rules)
+    (λ c. simp (eq-eqb _ _ c.before.if-len-ne26.false, c.number_at.ensures)))

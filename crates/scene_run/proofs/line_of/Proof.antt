@@ -3,14 +3,14 @@ use borrow.Author.Rules.{rules}
 use Rattle.scene_run.proofs.line_of.Statement.{statement}
 use Rattle.scene_run.proofs.line_of.Tie as tie
 
-pub line-of-spec : {M : Type 1} → statement M
-line-of-spec =
+pub line_of_spec : {M : Type 1} → statement M
+line_of_spec =
     tie.close
     (tie.spec
     (λ c. search rules) (λ c. search rules) (λ c κs. search rules) (λ c. search rules) (λ c. search rules)
     (λ c. search rules) (λ c. search rules) (λ c. search rules)
-    (λ c. simp c.enum_told.given.1)
-    (λ c. simp (c.before.before.report.given.1, c.fault-number.ensures))
-    (λ c. simp c.before.report2.given.1)
-    (λ c. simp c.before.report3.given.1)
+    (λ c. simp c.enum_told-1.requires.1)
+    (λ c. simp (c.before.before.report-1.requires.1, c.fault_number.ensures))
+    (λ c. simp c.before.report-in-Refused-1.requires.1)
+    (λ c. simp c.before.report-in-RefusedAt-1.requires.1)
     (λ c. search rules))

@@ -10,72 +10,72 @@ use Rattle.scene_run.proofs.Runs.{Going, begin, ends, after, on}
 use Rattle.scene_run.proofs.run_in.Statement.{statement}
 use Rattle.scene_run.proofs.run_in.Tie as tie
 
-abbrev invariant-loop : tie.invariant-loop
+abbrev invariant-loop : tie.invariant-loop-r
 invariant-loop s positions₀ normals₀ classes₀ out₀ c₀ written₀ positions normals classes out c written =
     Going s out₀ positions₀ normals₀ classes₀ c written positions normals classes out
 
-abbrev decreases-loop : tie.decreases-loop
+abbrev decreases-loop : tie.decreases-loop-r
 decreases-loop s positions₀ normals₀ classes₀ out₀ c₀ written₀ positions normals classes out c written = length s - c.at
 
 -- what an iteration has come past: the line as told, the record as stepped
-abbrev told : tie.After-goes-on invariant-loop decreases-loop → tie.After-line-of invariant-loop decreases-loop
+abbrev told : tie.After-goes_on invariant-loop decreases-loop → tie.After-line_of invariant-loop decreases-loop
 told c = c.before.before.before.before
 
-abbrev stepped : tie.After-line-of invariant-loop decreases-loop → tie.After-step invariant-loop decreases-loop
+abbrev stepped : tie.After-line_of invariant-loop decreases-loop → tie.After-step-r invariant-loop decreases-loop
 stepped c = c.before.before.before.before.before.before.before.before
 
-put-line-requires : tie.Need-put-line-requires invariant-loop decreases-loop
+put-line-requires : tie.Need-put_line-written-requires invariant-loop decreases-loop
 put-line-requires c κs =
     let going = (stepped c).before.before.before.before.loop.invariant in
     let good = going.ready.good in
     omega (arith, going.bound, going.room, good.within, good.small, good.few)
 
-returns-text : tie.Need-returns invariant-loop decreases-loop
+returns-text : tie.Need-returns-then-not-goes_on invariant-loop decreases-loop
 returns-text c =
     let asked = c.before in
-    let put = asked.before.before.before.put-line.ensures in
+    let put = asked.before.before.before.put_line-written.ensures in
     let line = (told asked).Line-of in
-    let step = (stepped (told asked)).step in
+    let step = (stepped (told asked)).step-r in
     let store = step.last.1.1 in
-    let going = (stepped (told asked)).before.before.before.before.loop.inv in
+    let going = (stepped (told asked)).before.before.before.before.loop-r.invariant in
     let good = going.ready.good in (
       ends going step.result store.0 store.1.0 store.1.1.0 (told_step_lem _ _ _ _ _ step.ensures) line.ensures put.0
-          asked.goes_on.ensures (not_true asked.goes_on.result c.if1.true),
+          asked.goes_on.ensures (not_true asked.goes_on.result c.if-not-goes_on.true),
       omega (arith, put.1, longest line.result, going.bound, good.within, good.small, good.few),
     )
 
-loop-less : tie.Need-loop-smaller invariant-loop decreases-loop
+loop-less : tie.Need-loop-r-smaller invariant-loop decreases-loop
 loop-less c =
     let asked = c.before.before in
-    let put = asked.before.before.before.put-line.ensures in
+    let put = asked.before.before.before.put_line-written.ensures in
     let line = (told asked).Line-of in
-    let step = (stepped (told asked)).step in
+    let step = (stepped (told asked)).step-r in
     let store = step.last.1.1 in
-    let going = (stepped (told asked)).before.before.before.before.loop.inv in
+    let going = (stepped (told asked)).before.before.before.before.loop-r.invariant in
     let onward = after going step.result store.0 store.1.0 store.1.1.0 (told_step_lem _ _ _ _ _ step.ensures) line.ensures put.0
-    asked.goes_on.ensures (not_false asked.goes_on.result c.before.if1.false) in
+    asked.goes_on.ensures (not_false asked.goes_on.result c.before.if-not-goes_on.false) in
     omega (arith, onward.forth, onward.good.within)
 
-loop-again : tie.Need-loop-preserved invariant-loop decreases-loop
+loop-again : tie.Need-loop-r-preserved invariant-loop decreases-loop
 loop-again c =
     let asked = c.before.before in
-    let put = asked.before.before.before.put-line.ensures in
+    let put = asked.before.before.before.put_line-written.ensures in
     let line = (told asked).Line-of in
-    let step = (stepped (told asked)).step in
+    let step = (stepped (told asked)).step-r in
     let store = step.last.1.1 in
-    let going = (stepped (told asked)).before.before.before.before.loop.inv in
+    let going = (stepped (told asked)).before.before.before.before.loop-r.invariant in
     on going step.result store.0 store.1.0 store.1.1.0 (told_step_lem _ _ _ _ _ step.ensures) line.ensures put.0
-    asked.goes_on.ensures (not_false asked.goes_on.result c.before.if1.false)
+    asked.goes_on.ensures (not_false asked.goes_on.result c.before.if-not-goes_on.false)
     (kept_step _ _ _ _ _ step.ensures going.ready) put.1 (search rules) (search rules) (search rules) (search rules)
 
-pub run-in-spec : {M : Type 1} → statement M
-run-in-spec =
+pub run_in_spec : {M : Type 1} → statement M
+run_in_spec =
     tie.close
     (tie.spec
     invariant-loop decreases-loop
     (λ c κs. search rules)
-    (λ c. begin _ _ _ _ _ c.before.before.before.before.before.before.requires c.fresh.ensures)
-    (λ c κs. c.before.before.before.loop.invariant.ready)
+    (λ c. begin _ _ _ _ _ c.before.before.before.before.before.before.requires c.fresh-c.ensures)
+    (λ c κs. c.before.before.before.loop-r.invariant.ready)
     (λ c κs. search rules)
     put-line-requires
     (λ c κs. search rules)

@@ -4,15 +4,15 @@ use borrow.Author.Rules.{rules}
 use Rattle.scene_steps.proofs.area_made.Statement.{statement}
 use Rattle.scene_steps.proofs.area_made.Tie as tie
 
-build-area-requires : tie.Need-build-area-requires
+build-area-requires : tie.Need-build_area-requires
 build-area-requires c κs = let given = c.before.before.before.before.before.before.before.before.requires in room _ _ given.0 given.1
 
-area-line-requires : tie.Need-area-line-requires
+area-line-requires : tie.Need-area_line-requires
 area-line-requires c κs =
     let looped = c.before.before.before.before in
     let at-build = looped.before.before.before.before.before.before.before.before in
-    let built = at-build.build-area.ensures in
-    let header = looped.h.given.1 in
+    let built = at-build.build_area.ensures in
+    let header = looped.h-1.requires.1 in
     let given = at-build.before.before.before.before.before.before.before.before.before.requires in (
       new_lies _ _ given.0 given.1 built header (search rules) (search rules) (search rules),
       addable _ _ given.0 given.1 built header,
@@ -24,23 +24,23 @@ refusal-requires c κs =
     let given = at-build.before.before.before.before.before.before.before.before.before.requires in
     (given.0.good.small, (room _ _ given.0 given.1).0, given.0.whole)
 
-returns-refused : tie.Need-returns
+returns-refused : tie.Need-returns-in-Refused
 returns-refused c =
     let at-build = c.before.before.before.before.before.before.before.before.before.before in
     let given = at-build.before.before.before.before.before.before.before.before.before.requires in
-    area_refused _ _ given.0 given.1 at-build.build-area.ensures c.before.before.k.given.1 c.refusal.ensures
+    area_refused _ _ given.0 given.1 at-build.build_area.ensures c.before.before.k-1.requires.1 c.refusal.ensures
 
-returns-looped : tie.Need-returns-2
+returns-looped : tie.Need-returns-in-Loop
 returns-looped c =
     let looped = c.before.before.before.before.before in
     let at-build = looped.before.before.before.before.before.before.before.before in
-    let built = at-build.build-area.ensures in
-    let header = looped.h.given.1 in
+    let built = at-build.build_area.ensures in
+    let header = looped.h-1.requires.1 in
     let given = at-build.before.before.before.before.before.before.before.before.before.requires in
-    area_looped _ _ given.0 given.1 built header c.area-line.ensures
+    area_looped _ _ given.0 given.1 built header c.area_line.ensures
 
-pub area-made-spec : {M : Type 1} → statement M
-area-made-spec =
+pub area_made_spec : {M : Type 1} → statement M
+area_made_spec =
     tie.close
     (tie.spec
     (λ c. search rules)

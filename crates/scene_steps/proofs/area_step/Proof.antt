@@ -6,30 +6,30 @@ use Rattle.scene_steps.proofs.area_step.Statement.{statement}
 use Rattle.scene_steps.proofs.area_step.Tie as tie
 
 -- where the area was found to be fine, ahead of `area_made`; and the call
-abbrev fine : tie.After-area-made-arg3 → tie.After-enum-told
+abbrev fine : tie.After-area_made-arg-in-Fine-2-1 → tie.In-Fine
 fine c = c.before.before.before
 
-abbrev made : tie.After-slice-known6 → tie.After-area-made
+abbrev made : tie.After-slice_known-in-Fine-3-1 → tie.After-area_made
 made c = c.before.before.before.before.before.before
 
-area-made-requires : tie.Need-area-made-requires
+area-made-requires : tie.Need-area_made-requires
 area-made-requires c κs =
     let judged = (fine c).before.before in
-    (judged.before.before.before.before.before.pre, sym (fine c).enum_told.given.1 ∙ judged.judge-area.ensures)
+    (judged.before.before.before.before.before.pre, sym (fine c).enum_told.given.1 ∙ judged.judge_area.ensures)
 
-returns-bad : tie.Need-returns
+returns-bad : tie.Need-returns-in-Bad
 returns-bad c =
     let judged = c.before.before.before in
-    area_bad _ _ judged.before.before.before.before.before.requires judged.judge-area.ensures c.before.f.given.1
+    area_bad _ _ judged.before.before.before.before.before.requires judged.judge_area.ensures c.before.f-1.requires.1
 
-returns-fine : tie.Need-returns-2
+returns-fine : tie.Need-returns-in-Fine
 returns-fine c =
     let found = fine (made c).before in
     let judged = found.before.before in
-    area_fine _ _ judged.before.before.before.before.before.pre judged.judge-area.ensures found.enum_told.given.1 (made c).area-made.ensures
+    area_fine _ _ judged.before.before.before.before.before.pre judged.judge_area.ensures found.enum_told-1.requires.1 (made c).area-made.ensures
 
-pub area-step-spec : {M : Type 1} → statement M
-area-step-spec =
+pub area_step_spec : {M : Type 1} → statement M
+area_step_spec =
     tie.close
     (tie.spec
     (λ c κs. search rules) (λ c. search rules) (λ c. search rules)

@@ -5,35 +5,35 @@ use Rattle.scene_steps.proofs.pair_step.Statement.{statement}
 use Rattle.scene_steps.proofs.pair_step.Tie as tie
 
 -- where the second number was looked up, ahead of their judgement
-abbrev looked : tie.After-judge-numbers → tie.After-index-of2
+abbrev looked : tie.After-judge_numbers → tie.After-index_of-j
 looked c = c.before.before.before
 
-pair-met-requires : tie.Need-pair-met-requires
+pair-met-requires : tie.Need-pair_met-requires
 pair-met-requires c κs =
     let judged = c.before.before in
     let second = looked judged in
     let ready = second.before.before.before.before.before.before.pre in
-    let one = second.before.index_of.ensures.0 in
-    let two = second.index-of2.ensures.0 in
-    let fine = c.enum_told.given.1 in
-    (ready, (one, first_below ready _ _ one two judged.judge-numbers.ensures fine), (two, second_below ready _ _ one two judged.judge-numbers.ensures fine))
+    let one = second.before.index_of-i.ensures.value in
+    let two = second.index_of-j.ensures.value in
+    let fine = c.enum_told-1.requires.1 in
+    (ready, (one, first_below ready _ _ one two judged.judge_numbers.ensures fine), (two, second_below ready _ _ one two judged.judge_numbers.ensures fine))
 
-returns-bad : tie.Need-returns
+returns-bad : tie.Need-returns-in-Bad
 returns-bad c =
     let judged = c.before.before.before in
     let second = looked judged in
     let ready = second.before.before.before.before.before.before.pre in
-    pair_bad ready _ _ second.before.index_of.ensures.0 second.index-of2.ensures.0 judged.judge-numbers.ensures c.before.f.given.1
+    pair_bad ready _ _ second.before.index_of-i.ensures.value second.index_of-j.ensures.value judged.judge_numbers.ensures c.before.f-1.requires.1
 
-returns-fine : tie.Need-returns-2
+returns-fine : tie.Need-returns-in-Fine
 returns-fine c =
     let judged = c.before.before.before in
     let second = looked judged in
     let ready = second.before.before.before.before.before.before.pre in
-    pair_fine ready _ _ second.before.index_of.ensures.0 second.index-of2.ensures.0 judged.judge-numbers.ensures c.before.enum_told.given.1 c.pair-met.ensures
+    pair_fine ready _ _ second.before.index_of-i.ensures.value second.index_of-j.ensures.value judged.judge_numbers.ensures c.before.enum_told-1.requires.1 c.pair_met.ensures
 
-pub pair-step-spec : {M : Type 1} → statement M
-pair-step-spec =
+pub pair_step_spec : {M : Type 1} → statement M
+pair_step_spec =
     tie.close
     (tie.spec
     (λ c κs. search rules) (λ c κs. search rules) (λ c. search rules) (λ c. search rules) (λ c κs. search rules) (λ c. search rules) (λ c. search rules)

@@ -4,11 +4,11 @@ use borrow.Author.Rules.{rules}
 use Rattle.scene_steps.proofs.place_met.Statement.{statement}
 use Rattle.scene_steps.proofs.place_met.Tie as tie
 
-said-in-requires : tie.Need-said-in-requires
+said-in-requires : tie.Need-said_in-said-requires
 said-in-requires c κs =
     let area = c.before.before in
     let given = area.before.before.before.before.before.requires in
-    area_lies given.0 given.2 area.area_of.ensures
+    area_lies given.0 given.2 area.area_of-a.ensures
 
 returns-met : tie.Need-returns
 returns-met c =
@@ -16,10 +16,10 @@ returns-met c =
     let point = asked.before in
     let area = point.before.before in
     let given = area.before.before.before.before.before.requires in
-    place_told_met given.0 _ _ given.1 area.area_of.ensures point.vec-at.ensures asked.said_in.ensures c.before.place-told.ensures c.passed.ensures
+    place_told_met given.0 _ _ given.1 area.area_of-a.ensures point.vec_at-p.ensures asked.said_in-said.ensures c.before.place_told.ensures c.passed.ensures
 
-pub place-met-spec : {M : Type 1} → statement M
-place-met-spec =
+pub place_met_spec : {M : Type 1} → statement M
+place_met_spec =
     tie.close
     (tie.spec
     (λ c κs. search rules) (λ c. search rules) (λ c κs. search rules)

@@ -5,30 +5,30 @@ use Rattle.scene_steps.proofs.place_step.Statement.{statement}
 use Rattle.scene_steps.proofs.place_step.Tie as tie
 
 -- where the number was looked up, ahead of its judgement
-abbrev looked : tie.After-judge-numbers → tie.After-index-of
+abbrev looked : tie.After-judge_numbers → tie.After-index_of-i
 looked c = c.before.before.before
 
-place-met-requires : tie.Need-place-met-requires
+place-met-requires : tie.Need-place_met-requires
 place-met-requires c κs =
     let judged = c.before.before in
     let index = (looked judged).index_of.ensures.0 in
     let ready = (looked judged).before.before.before.before.before.requires in
-    (ready, index, place_below ready _ index judged.judge-numbers.ensures c.enum_told.given.1)
+    (ready, index, place_below ready _ index judged.judge_numbers.ensures c.enum_told-1.requires.1)
 
-returns-bad : tie.Need-returns
+returns-bad : tie.Need-returns-in-Bad
 returns-bad c =
     let judged = c.before.before.before in
     let index = (looked judged).index_of.ensures.0 in
-    place_bad (looked judged).before.before.before.before.before.requires _ index judged.judge-numbers.ensures _ c.before.f.given.1
+    place_bad (looked judged).before.before.before.before.before.requires _ index judged.judge_numbers.ensures _ c.before.f-1.requires.1
 
-returns-fine : tie.Need-returns-2
+returns-fine : tie.Need-returns-in-Fine
 returns-fine c =
     let judged = c.before.before.before in
     let index = (looked judged).index_of.ensures.0 in
-    place_fine (looked judged).before.before.before.before.before.requires _ index judged.judge-numbers.ensures _ c.before.enum_told.given.1 c.place-met.ensures
+    place_fine (looked judged).before.before.before.before.before.requires _ index judged.judge_numbers.ensures _ c.before.enum_told-1.requires.1 c.place_met.ensures
 
-pub place-step-spec : {M : Type 1} → statement M
-place-step-spec =
+pub place_step_spec : {M : Type 1} → statement M
+place_step_spec =
     tie.close
     (tie.spec
     (λ c κs. search rules) (λ c. search rules) (λ c. search rules) (λ c κs. search rules) (λ c. search rules) (λ c. search rules)

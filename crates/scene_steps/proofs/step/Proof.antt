@@ -6,46 +6,46 @@ use Rattle.scene_steps.proofs.step.Statement.{statement}
 use Rattle.scene_steps.proofs.step.Tie as tie
 
 -- where the record was found to be of a kind, ahead of that kind's step
-abbrev area-found : tie.After-area-step-arg3 → tie.After-number
+abbrev area-found : tie.After-area_step-arg-in-Area-2-1 → tie.In-Area-2
 area-found c = c.before.before.before.before
 
-abbrev place_found : tie.After-place-step-arg3 → tie.After-number2
+abbrev place_found : tie.After-place-step-arg3 → tie.In-Place-2
 place_found c = c.before.before.before.before
 
-abbrev pair_found : tie.After-pair-step-arg3 → tie.After-number3
+abbrev pair_found : tie.After-pair-step-arg3 → tie.In-Pair-2
 pair_found c = c.before.before.before.before
 
-area-step-requires : tie.Need-area-step-requires
+area-step-requires : tie.Need-area_step-requires
 area-step-requires c κs =
     let read = (area-found c).before.before in
     ready_on read.before.before.before.before.before.pre read.read_at.ensures (area-found c).number.given.1
 
-place-step-requires : tie.Need-place-step-requires
+place-step-requires : tie.Need-place_step-requires
 place-step-requires c κs =
     let read = (place_found c).before.before in
     ready_on read.before.before.before.before.before.pre read.read_at.ensures (place_found c).number2.given.1
 
-pair-step-requires : tie.Need-pair-step-requires
+pair-step-requires : tie.Need-pair_step-requires
 pair-step-requires c κs =
     let read = (pair_found c).before.before in
     ready_on read.before.before.before.before.before.pre read.read_at.ensures (pair_found c).number3.given.1
 
-returns-end : tie.Need-returns
-returns-end c = step_is _ _ _ _ _ c.before.before.read_at.ensures c.enum_told.given.1 refl
+returns-end : tie.Need-returns-in-End
+returns-end c = step_is _ _ _ _ _ c.before.before.read_at.ensures c.enum_told-1.requires.1 refl
 
-returns-bad : tie.Need-returns-2
-returns-bad c = step_is _ _ _ _ _ c.before.before.before.read_at.ensures c.before.f.given.1 refl
+returns-bad : tie.Need-returns-in-Bad
+returns-bad c = step_is _ _ _ _ _ c.before.before.before.read_at.ensures c.before.f-1.requires.1 refl
 
-abbrev stepped : tie.After-slice-known6 → tie.After-area-step
+abbrev stepped : tie.After-slice_known-in-Area-3-1 → tie.After-area_step
 stepped c = c.before.before.before.before.before.before
 
-returns-area : tie.Need-returns-3
+returns-area : tie.Need-returns-in-Area
 returns-area c = step_is _ _ _ _ _ (area-found (stepped c).before).before.before.read_at.ensures (area-found (stepped c).before).number.given.1 (stepped c).area-step.ensures
 
-returns-place : tie.Need-returns-4
-returns-place c = step_is _ _ _ _ _ (place_found c.before).before.before.read_at.ensures (place_found c.before).number2.given.1 c.place-step.ensures
+returns-place : tie.Need-returns-in-Place
+returns-place c = step_is _ _ _ _ _ (place_found c.before).before.before.read_at.ensures (place_found c.before).number2.given.1 c.place_step.ensures
 
-returns-pair : tie.Need-returns-5
+returns-pair : tie.Need-returns-in-Pair
 returns-pair c = step_is _ _ _ _ _ (pair_found c.before).before.before.read_at.ensures (pair_found c.before).number3.given.1 c.Pair-step.ensures
 
 pub step_spec : {M : Type 1} → statement M

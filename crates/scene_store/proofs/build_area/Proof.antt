@@ -7,8 +7,8 @@ use borrow.Author.Rules.{rules}
 use Rattle.scene_store.proofs.build_area.Statement.{statement}
 use Rattle.scene_store.proofs.build_area.Tie as tie
 
-pub build-area-spec : {M : Type 1} → statement M
-build-area-spec =
+pub build_area_spec : {M : Type 1} → statement M
+build_area_spec =
     tie.close
     (tie.spec
     (λ c. search rules) (λ c. search rules)

@@ -5,9 +5,9 @@ use borrow.Author.Rules.{rules}
 use Rattle.scene_store.proofs.triangle_count.Statement.{statement}
 use Rattle.scene_store.proofs.triangle_count.Tie as tie
 
-pub triangle-count-spec : {M : Type 1} → statement M
+pub triangle_count_spec : {M : Type 1} → statement M
 unfolding blank
-triangle-count-spec =
+triangle_count_spec =
     tie.close
     (tie.spec
     (λ c. search rules) (λ c. search rules) (λ c. search rules) (λ c. search rules) (λ c. search rules)

@@ -13,17 +13,17 @@ use Rattle.scene_tests.proofs.read_part.Tie as tie
 grown : (n : ℕ) (xs ys : List ℕ) → n ≤ length xs → (n ≤ length (xs ++ ys)) × (n ≡ length (take n (xs ++ ys)))
 grown n xs ys h = let k : n ≤ length (xs ++ ys) = rw length-append (omega arith) in (k, sym (length-take-le n (xs ++ ys) k))
 
-slice-aggregate-read : tie.Need-slice-aggregate-read
-slice-aggregate-read c = sym (length-take-le _ _ c.before.if1.false)
+slice-aggregate-read : tie.Need-slice_bounds-read-end-2
+slice-aggregate-read c = sym (length-take-le _ _ c.before.if-buf-size.false)
 
-returns-3 : tie.Need-returns-3
+returns-3 : tie.Need-returns
 returns-3 c =
     let f = c.before.before.before.before.read in
     let s = c.before.before.before.before.before.before in
-    grown _ f.new.0 _ (omega (arith, f.auto.0, length-take-le s.before.read_number.result s.before.before.before.args.buf.now s.if1.false))
+    grown _ f.new.0 _ (omega (arith, f.auto.0, length-take-le s.before.read_number-size.result s.before.before.before.args.buf-1.now s.if-buf-size.false))
 
-pub read-part-spec : {M : Type 1} → statement M
-read-part-spec =
+pub read_part_spec : {M : Type 1} → statement M
+read_part_spec =
     tie.close
     (tie.spec
     (λ c κs. search rules) (λ c. search rules) (λ c. search rules) slice-aggregate-read (λ c κs. search rules) (λ c κs. search rules)

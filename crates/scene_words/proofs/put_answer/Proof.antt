@@ -5,28 +5,28 @@ use borrow.Author.Rules.{rules}
 use Rattle.scene_words.proofs.put_answer.Statement.{statement}
 use Rattle.scene_words.proofs.put_answer.Tie as tie
 
-returns-outside : tie.Need-returns
+returns-outside : tie.Need-returns-then-answer-eq0
 returns-outside c =
     let written = c.before.before in
     let word = written.put.ensures in
-    (simp (eq-eqb _ _ written.before.before.before.if1.true) word, omega arith)
+    (simp (eq-eqb _ _ written.before.before.before.if-answer-eq0.true) word, omega arith)
 
-returns-inside : tie.Need-returns-2
+returns-inside : tie.Need-returns-then-answer-eq1
 returns-inside c =
     let written = c.before.before in
     let second-test = written.before.before.before in
-    let word = written.put2.ensures in
-    (simp (ne_eqb _ _ second-test.before.if1.false, eq-eqb _ _ second-test.if2.true) word, omega arith)
+    let word = written.put-then-answer-eq1.ensures in
+    (simp (ne_eqb _ _ second-test.before.if-answer-eq0.false, eq-eqb _ _ second-test.if-answer-eq1.true) word, omega arith)
 
-returns-mute : tie.Need-returns-3
+returns-mute : tie.Need-returns
 returns-mute c =
     let written = c.before.before in
     let second-test = written.before.before.before in
-    let word = written.put3.ensures in
-    (simp (ne_eqb _ _ second-test.before.if1.false, ne_eqb _ _ second-test.if2.false) word, omega arith)
+    let word = written.put-2.ensures in
+    (simp (ne_eqb _ _ second-test.before.if-answer-eq0.false, ne_eqb _ _ second-test.if-answer-eq1.false) word, omega arith)
 
-pub put-answer-spec : {M : Type 1} → statement M
-put-answer-spec =
+pub put_answer_spec : {M : Type 1} → statement M
+put_answer_spec =
     tie.close
     (tie.spec
     (λ c. search rules) (λ c κs. search rules) (λ c. search rules)

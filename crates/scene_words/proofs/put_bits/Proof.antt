@@ -10,21 +10,21 @@ use borrow.Author.Rules.{rules}
 use Rattle.scene_words.proofs.put_bits.Statement.{statement}
 use Rattle.scene_words.proofs.put_bits.Tie as tie
 
-abbrev invariant-loop : tie.invariant-loop
+abbrev invariant-loop : tie.invariant-loop-i
 invariant-loop out₀ at bits i₀ out i = Lay 1 at (hex_at bits) 16 i out₀ out
 
-abbrev decreases-loop : tie.decreases-loop
+abbrev decreases-loop : tie.decreases-loop-i
 decreases-loop out₀ at bits i₀ out i = 16 - i
 
-loop-again : tie.Need-loop-preserved invariant-loop decreases-loop
-loop-again c = lay_on c.before.before.loop.invariant (λ j. refl) (rw (one-mul, c.hex-byte.ensures) refl) (omega arith)
+loop-again : tie.Need-loop-i-preserved invariant-loop decreases-loop
+loop-again c = lay_on c.before.before.loop-i.invariant (λ j. refl) (rw (one-mul, c.hex_byte.ensures) refl) (omega arith)
 
 returns-hex : tie.Need-returns invariant-loop decreases-loop
 unfolding hex
-returns-hex c = (record { text_there = lay_end c.before.loop.invariant (omega arith); next_offset = rw (length_flat (hex_at _) (λ j. refl) 16 0) refl }, omega arith)
+returns-hex c = (record { text_there = lay_end c.before.loop-i.invariant (omega arith); next_offset = rw (length_flat (hex_at _) (λ j. refl) 16 0) refl }, omega arith)
 
-pub put-bits-spec : {M : Type 1} → statement M
-put-bits-spec =
+pub put_bits_spec : {M : Type 1} → statement M
+put_bits_spec =
     tie.close
     (tie.spec
     invariant-loop decreases-loop

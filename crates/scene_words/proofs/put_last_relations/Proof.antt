@@ -5,28 +5,28 @@ use borrow.Author.Rules.{rules}
 use Rattle.scene_words.proofs.put_last_relations.Statement.{statement}
 use Rattle.scene_words.proofs.put_last_relations.Tie as tie
 
-returns-containing : tie.Need-returns
+returns-containing : tie.Need-returns-then-relation-eq3
 returns-containing c =
     let written = c.before.before in
     let word = written.put.ensures in
-    (simp (eq-eqb _ _ written.before.before.before.if1.true) word, omega arith)
+    (simp (eq-eqb _ _ written.before.before.before.if-relation-eq3.true) word, omega arith)
 
-returns_within : tie.Need-returns-2
+returns_within : tie.Need-returns-then-relation-eq4
 returns_within c =
     let written = c.before.before in
     let second-test = written.before.before.before in
-    let word = written.put2.ensures in
-    (simp (ne_eqb _ _ second-test.before.if1.false, eq-eqb _ _ second-test.if2.true) word, omega arith)
+    let word = written.put-then-relation-eq4.ensures in
+    (simp (ne_eqb _ _ second-test.before.if-relation-eq3.false, eq-eqb _ _ second-test.if-relation-eq4.true) word, omega arith)
 
-returns-equal : tie.Need-returns-3
+returns-equal : tie.Need-returns
 returns-equal c =
     let written = c.before.before in
     let second-test = written.before.before.before in
-    let word = written.put3.ensures in
-    (simp (ne_eqb _ _ second-test.before.if1.false, ne_eqb _ _ second-test.if2.false) word, omega arith)
+    let word = written.put-2.ensures in
+    (simp (ne_eqb _ _ second-test.before.if-relation-eq3.false, ne_eqb _ _ second-test.if-relation-eq4.false) word, omega arith)
 
-pub put-last-relations-spec : {M : Type 1} → statement M
-put-last-relations-spec =
+pub put_last_relations_spec : {M : Type 1} → statement M
+put_last_relations_spec =
     tie.close
     (tie.spec
     (λ c. search rules) (λ c κs. search rules) (λ c. search rules)

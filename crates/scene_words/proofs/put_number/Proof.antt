@@ -14,15 +14,15 @@ returns-number c =
     let at-hundreds = at-tens.before.before.before.before in
     let at-thousands = at-hundreds.before.before.before.before in
     let at-ten-thousands = at-thousands.before.before.before.before in
-    let ten_thousands = at-ten-thousands.put-digit.ensures in
-    let thousands = at-thousands.put-digit2.ensures in
-    let hundreds = at-hundreds.put-digit3.ensures in
-    let tens = at-tens.put-digit4.ensures in
+    let ten_thousands = at-ten-thousands.put_digit-a.ensures in
+    let thousands = at-thousands.put_digit-b.ensures in
+    let hundreds = at-hundreds.put_digit-c.ensures in
+    let tens = at-tens.put_digit-d.ensures in
     let ones = at_ones.put_byte.ensures in
     (then (then (then (then ten_thousands.0 thousands.0) hundreds.0) tens.0) ones, omega arith)
 
-pub put-number-spec : {M : Type 1} → statement M
-put-number-spec =
+pub put_number_spec : {M : Type 1} → statement M
+put_number_spec =
     tie.close
     (tie.spec
     (λ c κs. search rules) (λ c κs. search rules) (λ c κs. search rules) (λ c κs. search rules)

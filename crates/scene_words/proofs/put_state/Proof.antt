@@ -3,14 +3,14 @@ use borrow.Author.Rules.{rules}
 use Rattle.scene_words.proofs.put_state.Statement.{statement}
 use Rattle.scene_words.proofs.put_state.Tie as tie
 
-pub put-state-spec : {M : Type 1} → statement M
-put-state-spec =
+pub put_state_spec : {M : Type 1} → statement M
+put_state_spec =
     tie.close
     (tie.spec
     (λ c. search rules) (λ c. search rules) (λ c κs. search rules) (λ c. search rules) (λ c. search rules)
     (λ c κs. search rules) (λ c. search rules) (λ c κs. search rules) (λ c. search rules)
-    (λ c. (simp c.before.before.before.before.before.enum_told.given.1 c.before.before.put.ensures, omega (arith, c.before.before.put.ensures.next_offset)))
+    (λ c. (simp c.before.before.before.before.before.enum_told-1.requires.1 c.before.before.put.ensures, omega (arith, c.before.before.put.ensures.next_offset)))
     (λ c. search rules)
-    (λ c. (simp c.before.before.before.before.before.enum-told2.given.1 c.before.before.put2.ensures, omega (arith, c.before.before.put2.ensures.next_offset)))
+    (λ c. (simp c.before.before.before.before.before.enum_told-in-Full-1.requires.1 c.before.before.put-in-Full.ensures, omega (arith, c.before.before.put-in-Full.ensures.next_offset)))
     (λ c. search rules)
-    (λ c. (simp c.before.before.before.before.enum-told3.given.1 c.before.before.put-ring.ensures.0, c.before.before.put-ring.ensures.1)))
+    (λ c. (simp c.before.before.before.before.enum_told-in-Ring-1.requires.1 c.before.before.put_ring.ensures.wrote, c.before.before.put_ring.ensures.upper_bound)))

@@ -5,8 +5,8 @@ use borrow.Author.Rules.{rules}
 use Rattle.test_cuts.proofs.answer.Statement.{statement}
 use Rattle.test_cuts.proofs.answer.Tie as tie
 
-pub answer-spec : {M : Type 1} → statement M
-answer-spec =
+pub answer_spec : {M : Type 1} → statement M
+answer_spec =
     tie.close
     (tie.spec (λ c. search rules) (λ c. search rules)
     (λ c. sym (first_of_lem 12800 0 (omega (arith, c.before.requires.1))))

@@ -6,8 +6,8 @@ use borrow.Author.Rules.{rules}
 use Rattle.test_cuts.proofs.answer_bytes.Statement.{statement}
 use Rattle.test_cuts.proofs.answer_bytes.Tie as tie
 
-pub answer-bytes-spec : {M : Type 1} → statement M
-answer-bytes-spec =
+pub answer_bytes_spec : {M : Type 1} → statement M
+answer_bytes_spec =
     tie.close
     (tie.spec (λ c. search rules) (λ c κs. search rules) (λ c κs. search rules) (λ c. search rules) (λ c. search rules)
     (λ c. sym (first_of_lem 1536 F.zero (omega (arith, c.before.before.before.before.before.requires.1))))

@@ -3,10 +3,10 @@ use borrow.Author.Rules.{rules}
 use Rattle.test_cuts.proofs.main.Statement.{statement}
 use Rattle.test_cuts.proofs.main.Tie as tie
 
-abbrev invariant-loop : tie.invariant-loop
+abbrev invariant-loop : tie.invariant-loop-iterations
 invariant-loop iterations₀ iterations = iterations ≤ iterations₀
 
-abbrev decreases-loop : tie.decreases-loop
+abbrev decreases-loop : tie.decreases-loop-iterations
 decreases-loop iterations₀ iterations = iterations
 
 pub main_spec : {M : Type 1} → statement M

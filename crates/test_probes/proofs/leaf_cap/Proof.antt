@@ -5,26 +5,26 @@ use borrow.Author.Rules.{rules}
 use Rattle.test_probes.proofs.leaf_cap.Statement.{statement}
 use Rattle.test_probes.proofs.leaf_cap.Tie as tie
 
-returns : tie.Need-returns
+returns : tie.Need-returns-then-list-ne0
 unfolding leaf_cap
-returns c = simp (ne_eqb _ _ c.before.if1.true, c.refusal.ensures)
+returns c = simp (ne_eqb _ _ c.before.if-list-ne0.true, c.refusal.ensures)
 
-returns-2 : tie.Need-returns-2
+returns-2 : tie.Need-returns-then-out-lt4
 unfolding leaf_cap
 returns-2 c =
     let room = c.before in
-    simp (eq-eqb _ _ room.before.if1.false, lt-ltb _ _ room.if2.true, c.refusal2.ensures)
+    simp (eq-eqb _ _ room.before.if-list-ne0.false, lt-ltb _ _ room.if-out-lt4.true, c.refusal-then-out-lt4.ensures)
 
-returns-3 : tie.Need-returns-3
+returns-3 : tie.Need-returns
 unfolding leaf_cap
 returns-3 c =
     let p = c.before.before in
     let b = p.before.before in
     let room = b.before in
-    simp (eq-eqb _ _ room.before.if1.false, le-ltb _ _ room.if2.false, p.put.ensures, b.bounding-cap.ensures)
+    simp (eq-eqb _ _ room.before.if-list-ne0.false, le-ltb _ _ room.if-out-lt4.false, p.put.ensures, b.bounding_cap-c.ensures)
 
-pub leaf-cap-spec : {M : Type 1} → statement M
-leaf-cap-spec =
+pub leaf_cap_spec : {M : Type 1} → statement M
+leaf_cap_spec =
     tie.close
     (tie.spec
     (λ c κs. search rules) returns (λ c κs. search rules) returns-2 (λ c κs. search rules) (λ c κs. search rules) (λ c. search rules) (λ c. search rules)

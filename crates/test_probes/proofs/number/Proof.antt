@@ -8,20 +8,20 @@ use mathlib.Core.Path.{sym, ◌∙◌}
 use Rattle.test_probes.proofs.number.Statement.{statement}
 use Rattle.test_probes.proofs.number.Tie as tie
 
-pub number-spec : {M : Type 1} → statement M
+pub number_spec : {M : Type 1} → statement M
 unfolding number_of
-number-spec =
+number_spec =
     tie.close
     (tie.spec
     (λ c κs. tt) (λ c κs. tt) (λ c κs. tt) (λ c κs. tt)
     (λ c κs. tt) (λ c κs. tt) (λ c κs. tt) (λ c κs. tt)
-    (λ c. simp (c.before.match.keys1, c.dot-prod.ensures))
-    (λ c. simp (c.before.match.keys2, c.squared-norm.ensures))
-    (λ c. simp (c.before.match.keys3, c.norm.ensures))
-    (λ c. simp (c.before.match.keys4, c.new.ensures))
-    (λ c. simp (c.before.match.keys5, c.add.ensures))
-    (λ c. simp (c.before.match.keys6, c.sine.ensures))
-    (λ c. simp (c.before.match.keys7, c.dot-prod2.ensures))
-    (λ c. simp (c.before.match.keys8, c.turning-angle.ensures))
+    (λ c. simp (c.before.in_default.keys1, c.dot_prod.ensures))
+    (λ c. simp (c.before.in_default.keys2, c.squared_norm.ensures))
+    (λ c. simp (c.before.in_default.keys3, c.norm.ensures))
+    (λ c. simp (c.before.in_default.keys4, c.new.ensures))
+    (λ c. simp (c.before.in_default.keys5, c.add.ensures))
+    (λ c. simp (c.before.in_default.keys6, c.sine.ensures))
+    (λ c. simp (c.before.in_default.keys7, c.dot_prod-in-6.ensures))
+    (λ c. simp (c.before.in_default.keys8, c.turning_angle.ensures))
     (λ c. let a = c.before.args in
-    quotient ∙ sym (get_or-eq_default (numbers a.a a.b a.c) nan {n = a.op} (past 8 a.op c.match.rest))))
+    quotient ∙ sym (get_or-eq_default (numbers a.a a.b a.c) nan {n = a.op} (past 8 a.op c.in_default.rest))))

@@ -3,10 +3,10 @@ use borrow.Author.Rules.{rules}
 use Rattle.test_probes.proofs.point_or.Statement.{statement}
 use Rattle.test_probes.proofs.point_or.Tie as tie
 
-pub point-or-spec : {M : Type 1} → statement M
-point-or-spec =
+pub point_or_spec : {M : Type 1} → statement M
+point_or_spec =
     tie.close
     (tie.spec
     (λ c. search rules) (λ c. search rules)
-    (λ c. simp c.enum_told.given.1)
+    (λ c. simp c.enum_told-1.requires.1)
     (λ c. search rules))

@@ -5,8 +5,8 @@ use borrow.Author.Rules.{rules}
 use Rattle.test_replay.proofs.replay_body.Statement.{statement}
 use Rattle.test_replay.proofs.replay_body.Tie as tie
 
-pub replay-body-spec : {M : Type 1} → statement M
-replay-body-spec =
+pub replay_body_spec : {M : Type 1} → statement M
+replay_body_spec =
     tie.close
     (tie.spec (λ c. search rules) (λ c. search rules) (λ c. search rules)
     (λ c. sym (first_of_lem 4096 0 (search rules)))

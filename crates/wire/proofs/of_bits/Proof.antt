@@ -3,10 +3,10 @@ use borrow.Author.Rules.{rules}
 use Rattle.wire.proofs.of_bits.Statement.{statement}
 use Rattle.wire.proofs.of_bits.Tie as tie
 
-pub of-bits-spec : {M : Type 1} → statement M
-of-bits-spec =
+pub of_bits_spec : {M : Type 1} → statement M
+of_bits_spec =
     tie.close
     (tie.spec
-    (λ c. no_nan_pattern _ c.if1.false)
-    (λ c. nan_pattern _ c.if1.true)
+    (λ c. no_nan_pattern _ c.if-b-gt9218868437227405312.false)
+    (λ c. nan_pattern _ c.if-b-gt9218868437227405312.true)
     (λ c. search rules))

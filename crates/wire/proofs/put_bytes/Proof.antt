@@ -10,14 +10,14 @@ use borrow.Author.Rules.{rules}
 use Rattle.wire.proofs.put_bytes.Statement.{statement}
 use Rattle.wire.proofs.put_bytes.Tie as tie
 
-abbrev invariant-loop : tie.invariant-loop
+abbrev invariant-loop : tie.invariant-loop-i
 invariant-loop out₀ at from i₀ i-end out i = Lay 1 at (one 0 from) (length from) i out₀ out
 
-abbrev decreases-loop : tie.decreases-loop
+abbrev decreases-loop : tie.decreases-loop-i
 decreases-loop out₀ at from i₀ i-end out i = length from - i
 
-pub put-bytes-spec : {M : Type 1} → statement M
-put-bytes-spec =
+pub put_bytes_spec : {M : Type 1} → statement M
+put_bytes_spec =
     tie.close
     (tie.spec
     invariant-loop decreases-loop
@@ -27,6 +27,6 @@ put-bytes-spec =
     (λ c. search rules)
     (λ c. search rules)
     (λ c. search rules)
-    (λ c. lay_on c.before.before.loop.invariant (λ j. refl) (rw one-mul refl) (omega arith))
+    (λ c. lay_on c.before.before.loop-i.invariant (λ j. refl) (rw one-mul refl) (omega arith))
     (λ c. search rules)
-    (λ c. copy_laid 0 c.before.before.args.from.now c.before.loop.invariant (omega arith)))
+    (λ c. copy_laid 0 c.before.before.args.from.now c.before.loop-i.invariant (omega arith)))

@@ -9,15 +9,15 @@ use borrow.Author.Rules.{rules}
 use Rattle.wire.proofs.put_floats.Statement.{statement}
 use Rattle.wire.proofs.put_floats.Tie as tie
 
-abbrev invariant-loop : tie.invariant-loop
+abbrev invariant-loop : tie.invariant-loop-i
 invariant-loop out₀ at from i₀ i-end out i = Lay 8 at (float_bytes_at from) (length from) i out₀ out
 
-abbrev decreases-loop : tie.decreases-loop
+abbrev decreases-loop : tie.decreases-loop-i
 decreases-loop out₀ at from i₀ i-end out i = length from - i
 
-pub put-floats-spec : {M : Type 1} → statement M
+pub put_floats_spec : {M : Type 1} → statement M
 unfolding floats_bytes
-put-floats-spec =
+put_floats_spec =
     tie.close
     (tie.spec
     invariant-loop decreases-loop
@@ -30,6 +30,6 @@ put-floats-spec =
     (λ c. search rules)
     (λ c. search rules)
     (λ c. let put = c.before.before in
-    lay_on put.before.before.before.before.loop.invariant (λ j. eight _) put.put-float.ensures (omega arith))
+    lay_on put.before.before.before.before.loop-i.invariant (λ j. eight _) put.put_float.ensures (omega arith))
     (λ c. search rules)
-    (λ c. lay_end c.before.loop.invariant (omega arith)))
+    (λ c. lay_end c.before.loop-i.invariant (omega arith)))

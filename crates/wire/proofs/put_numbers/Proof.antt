@@ -10,15 +10,15 @@ use borrow.Author.Rules.{rules}
 use Rattle.wire.proofs.put_numbers.Statement.{statement}
 use Rattle.wire.proofs.put_numbers.Tie as tie
 
-abbrev invariant-loop : tie.invariant-loop
+abbrev invariant-loop : tie.invariant-loop-i
 invariant-loop out₀ from i₀ i-end out i = Lay 2 0 (number_bytes_at from) (length from) i out₀ out
 
-abbrev decreases-loop : tie.decreases-loop
+abbrev decreases-loop : tie.decreases-loop-i
 decreases-loop out₀ from i₀ i-end out i = length from - i
 
-pub put-numbers-spec : {M : Type 1} → statement M
+pub put_numbers_spec : {M : Type 1} → statement M
 unfolding numbers_bytes
-put-numbers-spec =
+put_numbers_spec =
     tie.close
     (tie.spec
     invariant-loop decreases-loop
@@ -31,7 +31,7 @@ put-numbers-spec =
     (λ c. search rules)
     (λ c. search rules)
     (λ c. let put = c.before.before in
-    let bytes = simp put.before.wide-number.ensures at put.put-u16.ensures in
-    lay_on put.before.before.before.before.before.loop.invariant (λ j. refl) (rw zero-add bytes) (omega arith))
+    let bytes = simp put.before.wide_number.ensures at put.put_u16.ensures in
+    lay_on put.before.before.before.before.before.loop-i.invariant (λ j. refl) (rw zero-add bytes) (omega arith))
     (λ c. search rules)
-    (λ c. lay_end c.before.loop.invariant (omega arith)))
+    (λ c. lay_end c.before.loop-i.invariant (omega arith)))

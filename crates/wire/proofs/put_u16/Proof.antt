@@ -5,8 +5,8 @@ use borrow.Author.Rules.{rules}
 use Rattle.wire.proofs.put_u16.Statement.{statement}
 use Rattle.wire.proofs.put_u16.Tie as tie
 
-pub put-u16-spec : {M : Type 1} → statement M
-put-u16-spec =
+pub put_u16_spec : {M : Type 1} → statement M
+put_u16_spec =
     tie.close
     (tie.spec
     (λ c. search rules) (λ c. search rules) (λ c. search rules) (λ c. search rules)

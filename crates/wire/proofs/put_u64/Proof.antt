@@ -12,10 +12,10 @@ returns c =
     let third = fourth.before.before.before.before in
     let second = third.before.before.before.before in
     let first = second.before.before.before.before in
-    simp (fourth.put-u164.ensures, third.put-u163.ensures, second.put-u162.ensures, first.put-u16.ensures, towards_suc)
+    simp (fourth.put_u16-4.ensures, third.put_u16-3.ensures, second.put_u16-2.ensures, first.put_u16.ensures, towards_suc)
 
-pub put-u64-spec : {M : Type 1} → statement M
-put-u64-spec =
+pub put_u64_spec : {M : Type 1} → statement M
+put_u64_spec =
     tie.close
     (tie.spec
     (λ c κs. search rules) (λ c. search rules) (λ c κs. search rules) (λ c. search rules) (λ c κs. search rules)

@@ -9,15 +9,15 @@ use borrow.Author.Rules.{rules}
 use Rattle.wire.proofs.read_floats.Statement.{statement}
 use Rattle.wire.proofs.read_floats.Tie as tie
 
-abbrev invariant-loop : tie.invariant-loop
+abbrev invariant-loop : tie.invariant-loop-i
 invariant-loop s at out₀ i₀ i-end out i = Fill 1 (float_block s at) (length out₀) i out₀ out
 
-abbrev decreases-loop : tie.decreases-loop
+abbrev decreases-loop : tie.decreases-loop-i
 decreases-loop s at out₀ i₀ i-end out i = length out₀ - i
 
-pub read-floats-spec : {M : Type 1} → statement M
+pub read_floats_spec : {M : Type 1} → statement M
 unfolding floats_at
-read-floats-spec =
+read_floats_spec =
     tie.close
     (tie.spec
     invariant-loop decreases-loop
@@ -29,6 +29,6 @@ read-floats-spec =
     (λ c. search rules)
     (λ c. search rules)
     (λ c. search rules)
-    (λ c. fill_on_one c.before.before.loop.invariant refl (simp c.float_at.ensures) (omega arith))
+    (λ c. fill_on_one c.before.before.loop-i.invariant refl (simp c.float_at.ensures) (omega arith))
     (λ c. search rules)
-    (λ c. fill_all_one c.before.loop.invariant (omega arith) refl))
+    (λ c. fill_all_one c.before.loop-i.invariant (omega arith) refl))

@@ -9,15 +9,15 @@ use borrow.Author.Rules.{rules}
 use Rattle.wire.proofs.read_numbers.Statement.{statement}
 use Rattle.wire.proofs.read_numbers.Tie as tie
 
-abbrev invariant-loop : tie.invariant-loop
+abbrev invariant-loop : tie.invariant-loop-i
 invariant-loop s out₀ i₀ i-end out i = Fill 1 (number_block s) (length out₀) i out₀ out
 
-abbrev decreases-loop : tie.decreases-loop
+abbrev decreases-loop : tie.decreases-loop-i
 decreases-loop s out₀ i₀ i-end out i = length out₀ - i
 
-pub read-numbers-spec : {M : Type 1} → statement M
+pub read_numbers_spec : {M : Type 1} → statement M
 unfolding numbers_at
-read-numbers-spec =
+read_numbers_spec =
     tie.close
     (tie.spec
     invariant-loop decreases-loop
@@ -29,6 +29,6 @@ read-numbers-spec =
     (λ c. search rules)
     (λ c. search rules)
     (λ c. search rules)
-    (λ c. fill_on_one c.before.before.loop.invariant refl (simp c.u16-at.ensures.0) (omega arith))
+    (λ c. fill_on_one c.before.before.loop-i.invariant refl (simp c.u16_at.ensures.value) (omega arith))
     (λ c. search rules)
-    (λ c. fill_all_one c.before.loop.invariant (omega arith) refl))
+    (λ c. fill_all_one c.before.loop-i.invariant (omega arith) refl))

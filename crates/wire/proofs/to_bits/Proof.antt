@@ -4,10 +4,10 @@ use borrow.Author.Rules.{rules}
 use Rattle.wire.proofs.to_bits.Statement.{statement}
 use Rattle.wire.proofs.to_bits.Tie as tie
 
-pub to-bits-spec : {M : Type 1} → statement M
-to-bits-spec =
+pub to_bits_spec : {M : Type 1} → statement M
+to_bits_spec =
     tie.close
     (tie.spec
-    (λ c. not_nan _ c.if1.false)
-    (λ c. nan_bits _ c.if1.true)
+    (λ c. not_nan _ c.if-x.false)
+    (λ c. nan_bits _ c.if-x.true)
     (λ c. search rules))

@@ -3,10 +3,10 @@ use borrow.Author.Rules.{rules}
 use Rattle.wire.proofs.u64_at.Statement.{statement}
 use Rattle.wire.proofs.u64_at.Tie as tie
 
-pub u64-at-spec : {M : Type 1} → statement M
+pub u64_at_spec : {M : Type 1} → statement M
 unfolding u64_of
-u64-at-spec =
+u64_at_spec =
     tie.close
     (tie.spec
     (λ c κs. search rules) (λ c. search rules) (λ c κs. search rules) (λ c. search rules) (λ c. search rules)
-    (λ c. simp (c.before.u32-at.ensures.0, c.u32-at2.ensures.0)))
+    (λ c. simp (c.before.u32_at.ensures.value, c.u32_at-2.ensures.value)))

@@ -4,43 +4,43 @@ use borrow.Author.Rules.{rules}
 use Rattle.chord_length.proofs.ChordLength.add.Statement.{statement}
 use Rattle.chord_length.proofs.ChordLength.add.Tie as tie
 
-returns : tie.Need-returns
+returns : tie.Need-returns-then-self
 unfolding sum
-returns c = simp c.if1.true
+returns c = simp c.if-self.true
 
-returns-2 : tie.Need-returns-2
+returns-2 : tie.Need-returns-then-o
 unfolding sum
-returns-2 c = simp (c.if2.true, c.before.before.if1.false)
+returns-2 c = simp (c.if-o.true, c.before.before.if-self.false)
 
-returns-3 : tie.Need-returns-3
+returns-3 : tie.Need-returns-then-self-2
 unfolding sum
 returns-3 c =
     let second = c.before.before in
-    simp (c.if3.true, second.if2.false, second.before.before.if1.false)
+    simp (c.if-self-2.true, second.if-o.false, second.before.before.if-self.false)
 
-returns-4 : tie.Need-returns-4
+returns-4 : tie.Need-returns-then-o-2
 unfolding sum
 returns-4 c =
     let third = c.before.before in
     let second = third.before.before in
-    simp (c.if4.true, third.if3.false, second.if2.false, second.before.before.if1.false)
+    simp (c.if-o-2.true, third.if-self-2.false, second.if-o.false, second.before.before.if-self.false)
 
-returns-5 : tie.Need-returns-5
+returns-5 : tie.Need-returns-then-self-o
 unfolding sum
 returns-5 c =
     let fourth = c.before.before.before in
     let third = fourth.before.before in
     let second = third.before.before in
-    simp (c.if5.true, fourth.if4.false, third.if3.false, second.if2.false, second.before.before.if1.false)
+    simp (c.if-self-o.true, fourth.if-o-2.false, third.if-self-2.false, second.if-o.false, second.before.before.if-self.false)
 
-returns-6 : tie.Need-returns-6
+returns-6 : tie.Need-returns
 unfolding sum
 returns-6 c =
     let fifth = c.before in
     let fourth = fifth.before.before.before in
     let third = fourth.before.before in
     let second = third.before.before in
-    simp (fifth.if5.false, fourth.if4.false, third.if3.false, second.if2.false, second.before.before.if1.false) c.joined.ensures
+    simp (fifth.if-self-o.false, fourth.if-o-2.false, third.if-self-2.false, second.if-o.false, second.before.before.if-self.false) c.joined.ensures
 
 pub add_spec : {M : Type 1} → statement M
 add_spec =

@@ -3,10 +3,10 @@ use borrow.Author.Rules.{rules}
 use Rattle.chord_length.proofs.ChordLength.joined.Statement.{statement}
 use Rattle.chord_length.proofs.ChordLength.joined.Tie as tie
 
-pub joined-spec : {M : Type 1} → statement M
+pub joined_spec : {M : Type 1} → statement M
 unfolding joined
-joined-spec =
+joined_spec =
     tie.close
     (tie.spec
     (λ c κs. search rules) (λ c κs. search rules)
-    (λ c. simp (c.from-squared-length.ensures, c.before.root.ensures.same)))
+    (λ c. simp (c.from_squared_length.ensures, c.before.root.ensures.same)))

@@ -7,4 +7,4 @@ new_spec =
     tie.close
     (tie.spec
     (λ c κs. search rules) (λ c κs. search rules) (λ c κs. search rules)
-    (λ c. simp (c.from-squared-length.ensures, c.before.squared-norm.ensures, c.before.before.sub.ensures)))
+    (λ c. simp (c.from_squared_length.ensures, c.before.squared_norm.ensures, c.before.before.sub.ensures)))

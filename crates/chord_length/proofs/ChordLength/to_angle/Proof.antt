@@ -2,8 +2,8 @@
 use Rattle.chord_length.proofs.ChordLength.to_angle.Statement.{statement}
 use Rattle.chord_length.proofs.ChordLength.to_angle.Tie as tie
 
-pub to-angle-spec : {M : Type 1} → statement M
-to-angle-spec =
+pub to_angle_spec : {M : Type 1} → statement M
+to_angle_spec =
     tie.close
     (tie.spec
     (λ c κs. tt)

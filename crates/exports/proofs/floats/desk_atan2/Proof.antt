@@ -7,9 +7,9 @@ returns : tie.Need-returns
 returns c =
     let angle = c.before in
     let x = angle.before in
-    simp (c.to-bits.ensures, angle.atan2.ensures, x.of-bits2.ensures, x.before.of-bits.ensures)
+    simp (c.to_bits.ensures, angle.atan2.ensures, x.of_bits-2.ensures, x.before.of_bits.ensures)
 
-pub desk-atan2-spec : {M : Type 1} → statement M
-desk-atan2-spec =
+pub desk_atan2_spec : {M : Type 1} → statement M
+desk_atan2_spec =
     tie.close
     (tie.spec (λ c κs. search rules) (λ c κs. search rules) (λ c κs. search rules) (λ c κs. search rules) returns)

@@ -8,10 +8,10 @@ returns c =
     let end = at_end.before in
     let at-start = end.before in
     let start = at-start.before in
-    simp (c.beyond-by.ensures, at_end.dot-prod2.ensures, end.cross-prod2.ensures, at-start.dot-prod.ensures, start.cross-prod.ensures)
+    simp (c.beyond_by.ensures, at_end.dot_prod-e.ensures, end.cross_prod-2.ensures, at-start.dot_prod-s.ensures, start.cross_prod.ensures)
 
-pub is-past-spec : {M : Type 1} → statement M
-is-past-spec =
+pub is_past_spec : {M : Type 1} → statement M
+is_past_spec =
     tie.close
     (tie.spec (λ c κs. tt) (λ c κs. tt) (λ c κs. tt) (λ c κs. tt) (λ c κs. tt)
     returns)

@@ -3,11 +3,11 @@ use Rattle.minor_arc.specs.Arcs.{location_of}
 use Rattle.minor_arc.proofs.MinorArc.location.Statement.{statement}
 use Rattle.minor_arc.proofs.MinorArc.location.Tie as tie
 
-pub location-spec : {M : Type 1} → statement M
+pub location_spec : {M : Type 1} → statement M
 unfolding location_of
-location-spec =
+location_spec =
     tie.close
     (tie.spec (λ c κs. tt) (λ c. search rules)
-    (λ c. simp (← c.before.before.side-of.ensures, c.enum_told.given.1))
+    (λ c. simp (← c.before.before.side_of-s.ensures, c.enum_told-1.requires.1))
     (λ c κs. tt) (λ c κs. tt)
-    (λ c. simp (c.locate.ensures, c.before.side-of2.ensures, c.before.before.before.side-of.ensures)))
+    (λ c. simp (c.locate.ensures, c.before.side_of.ensures, c.before.before.before.side_of-s.ensures)))

@@ -3,11 +3,11 @@ use borrow.Author.Rules.{rules}
 use Rattle.minor_arc.proofs.MinorArc.met.Statement.{statement}
 use Rattle.minor_arc.proofs.MinorArc.met.Tie as tie
 
-pub met-spec : {M : Type 1} → statement M
-met-spec =
+pub met_spec : {M : Type 1} → statement M
+met_spec =
     tie.close
     (tie.spec
     (λ c. search rules)
-    (λ c. simp c.enum_told.given.1)
+    (λ c. simp c.enum_told-1.requires.1)
     (λ c κs. tt) (λ c κs. tt)
-    (λ c. simp (c.meet-at.ensures, c.before.location.ensures)))
+    (λ c. simp (c.meet_at.ensures, c.before.location.ensures)))

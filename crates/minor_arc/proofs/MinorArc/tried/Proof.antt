@@ -35,7 +35,7 @@ first_alone Plain a b p s h = refl
 first_alone Long a b p s h =
     rw ((opposite_laws.opposites a b p s).interior (to_first (is-interior (location_of a p) h))) (sym (better-apart (meeting_in a b p)))
 
-returns : tie.Need-returns
+returns : tie.Need-returns-then-is_interior
 unfolding meeting_in
 returns c =
     let other = c.before in
@@ -43,19 +43,19 @@ returns c =
     let asked = within.before in
     let first = asked.before in
     let start = first.before in
-    let place = first.location.ensures in
-    simp (c.meet-at.ensures, other.location2.ensures, place)
+    let place = first.location-l.ensures in
+    simp (c.meet_at.ensures, other.location.ensures, place)
     (first_alone start.args.mode start.args.self start.args.o start.args.p start.requires
-    (simp (← place) (sym asked.is-interior.ensures ∙ within.if1.true)))
+    (simp (← place) (sym asked.is_interior.ensures ∙ within.if-is_interior.true)))
 
-returns-2 : tie.Need-returns-2
+returns-2 : tie.Need-returns-in-Plain
 unfolding meeting_in
 returns-2 c =
     let plain = c.before in
     let first = plain.before.before.before.before in
-    simp (plain.enum_told.given.1, c.met.ensures, first.location.ensures)
+    simp (plain.enum_told-1.requires.1, c.met.ensures, first.location-l.ensures)
 
-returns-3 : tie.Need-returns-3
+returns-3 : tie.Need-returns-in-Long
 unfolding meeting_in
 returns-3 c =
     let second = c.before in
@@ -64,16 +64,16 @@ returns-3 c =
     let long = met.before in
     let first = long.before.before.before.before in
     simp (
-      long.enum-told2.given.1,
+      long.enum_told-in-Long-1.requires.1,
       c.better.ensures,
-      second.meeting-in.ensures,
+      second.meeting_in.ensures,
       turned.neg.ensures,
-      met.met2.ensures,
-      first.location.ensures,
+      met.met-in-Long.ensures,
+      first.location-l.ensures,
     )
 
-pub tried-spec : {M : Type 1} → statement M
-tried-spec =
+pub tried_spec : {M : Type 1} → statement M
+tried_spec =
     tie.close
     (tie.spec
     (λ c κs. tt) (λ c κs. tt) (λ c κs. tt) (λ c κs. tt)

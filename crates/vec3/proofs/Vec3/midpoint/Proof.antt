@@ -4,20 +4,20 @@ use borrow.Author.Rules.{rules}
 use Rattle.vec3.proofs.Vec3.midpoint.Statement.{statement}
 use Rattle.vec3.proofs.Vec3.midpoint.Tie as tie
 
-returns : tie.Need-returns
+returns : tie.Need-returns-then-is_antipode_of-equals
 unfolding midpoint
 returns c =
     let compared = c.before in
     let asked = compared.before in
-    simp (← asked.before.new-unit.ensures, ← asked.is-antipode-of.ensures, ← compared.equals.ensures, c.if1.true)
+    simp (← asked.before.new_unit-m.ensures, ← asked.is_antipode_of.ensures, ← compared.equals.ensures, c.if-is_antipode_of-equals.true)
 
-returns-2 : tie.Need-returns-2
+returns-2 : tie.Need-returns-else-is_antipode_of-equals
 unfolding midpoint
 returns-2 c =
     let compared = c.before in
     let asked = compared.before in
-    simp (← asked.before.new-unit.ensures, ← asked.is-antipode-of.ensures, ← compared.equals.ensures, c.if1.false)
+    simp (← asked.before.new_unit-m.ensures, ← asked.is_antipode_of.ensures, ← compared.equals.ensures, c.if-is_antipode_of-equals.false)
 
-pub midpoint-spec : {M : Type 1} → statement M
-midpoint-spec =
+pub midpoint_spec : {M : Type 1} → statement M
+midpoint_spec =
     tie.close (tie.spec (λ c κs. search rules) (λ c κs. search rules) (λ c κs. search rules) returns returns-2)

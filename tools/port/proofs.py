@@ -1,0 +1,154 @@
+#!/usr/bin/env python3
+"""Run at the top, after port.py and names.py, with the folder that `rt names OUT` wrote: brings each function's Proof.antt to the names that Rattle makes today.
+
+Of a goal, a place of the code, a step or a loop the list has the older name and today's. A clause that a step ensures goes by its name where it has one.
+"""
+
+import json
+import os
+import re
+import sys
+
+sys.path.insert(0, os.path.dirname(os.path.realpath(__file__)))
+from common import read, texts
+
+top, out = sys.argv[1], sys.argv[2]
+only = set(sys.argv[3:])
+WORDS = {"inv": "invariant", "taken": "true", "left": "false", "kept": "auto", "given": "requires"}
+
+
+def key(name):
+    return re.sub(r"[-_]+", "_", name)
+
+
+def clauses():
+    """For each function, crate::path, the names of its requires and of its ensures in order."""
+    found = {}
+    for path in texts(top, (".rt",)):
+        crate = re.search(r"crates/([^/]+)/src/(.*)\.rt$", path)
+        module = [] if crate[2] in ("lib", "main") else crate[2].split("/")
+        text = re.sub(r"//[^\n]*", "", read(path))
+        for m in re.finditer(r"\bfn (\w+)[^{;]*?(?=\brequires|\bensures|\{)", text):
+            head, at = {"requires": [], "ensures": []}, m.end()
+            while True:
+                c = re.compile(r"\s*(requires|ensures)(?: (\w+))? \{").match(text, at)
+                if not c:
+                    break
+                depth, at = 1, c.end()
+                while depth:
+                    depth += {"{": 1, "}": -1}.get(text[at], 0)
+                    at += 1
+                head[c[1]].append(c[2])
+            found.setdefault((crate[1], m[1]), []).append(head)
+    return found
+
+
+CLAUSES = clauses()
+
+
+def clause(callee, kind, at):
+    parts = callee.split("::")
+    heads = CLAUSES.get((parts[0], parts[-1]), [])
+    if len(heads) != 1 or at >= len(heads[0][kind]):
+        return None
+    return heads[0][kind][at]
+
+
+def proof(path, crate, name, of):
+    text = read(path)
+    needs, places, steps, loops, callees = {}, {}, {}, {}, {}
+    for old, new in of["needs"]:
+        needs.setdefault(key(old), new)
+    for (old, *_), new in zip(of["places"], of["places_by_name"]):
+        places[key(old)] = new
+    for old, _, (was, now), callee, _ in of["places"]:
+        steps[key(was)] = now
+        if callee:
+            callees[now] = callee
+    for (was, now), _ in of["loops"]:
+        loops[key(was)] = now
+        steps[key(was)] = now
+    said = []
+    heads = {"loop_holds": "loop_init", "loop_again": "loop_preserved"}
+
+    def need(word):
+        k = key(word)
+        for was, now in heads.items():
+            k = k.replace(was, now)
+        for it in (k, re.sub(r"^(overflow|nonzero|bounds)_", "", k), "overflow_" + k):
+            if it in needs:
+                return needs[it]
+        for new in needs.values():
+            if key(new) == k:
+                return new
+        said.append(f"{path}: no goal for {word}")
+        return word
+
+    def after_tie(m):
+        word = m[1]
+        if word.startswith("Need-"):
+            return "tie.Need-" + need(word[5:])
+        for head in ("invariant-", "decreases-"):
+            if word.startswith(head):
+                k = key(word[len(head) :])
+                if k in loops:
+                    return "tie." + head + loops[k]
+        if key(word) in places:
+            return "tie." + places[key(word)]
+        return m[0]
+
+    text = re.sub(r"\btie\.([^\s(){};,.]+)", after_tie, text)
+
+    def path_of(m):
+        words = m[0].split(".")
+        done = [words[0]]
+        last = None
+        for w in words[1:]:
+            if w == "before" or w == "":
+                done.append(w)
+                continue
+            if last is None and key(w) in steps and w not in ("args",):
+                last = steps[key(w)]
+                done.append(last)
+                continue
+            if last is not None and w in WORDS:
+                done.append(WORDS[w])
+                continue
+            if w.isdigit() and done[-1] == "ensures" and last in callees:
+                named = clause(callees[last], "ensures", int(w))
+                if named:
+                    done.append(named)
+                    continue
+            if w.isdigit() and done[-1] in ("pre", "requires") and last is None:
+                named = clause(f"{crate}::{name}", "requires", int(w))
+                if named:
+                    done.append(named)
+                    continue
+            done.append(w)
+        return ".".join(done)
+
+    lines = []
+    for line in text.split("\n"):
+        if not line.startswith("use ") and not line.lstrip().startswith("--"):
+            line = re.sub(r"(?<![\w.])(?:[a-zλ][^\s(){};,.]*|\))(?:\.[^\s(){};,.]+)+", path_of, line)
+        lines.append(line)
+    text = "\n".join(lines)
+    text = re.sub(r"(?m)^(pub )?([^\s:]+[-_]spec)( :| =)", lambda m: (m[1] or "") + name + "_spec" + m[3], text)
+    with open(path, "w", encoding="utf-8") as f:
+        f.write(text)
+    return said
+
+
+for crate in sorted(os.listdir(os.path.join(out, "crates"))):
+    if only and crate not in only:
+        continue
+    with open(os.path.join(out, "crates", crate, "names.json")) as f:
+        listed = json.load(f)
+    for k, of in listed.items():
+        if not (isinstance(of, dict) and k.endswith(".Lts") and "needs" in of):
+            continue
+        function = k.split(".", 1)[1][: -len(".Lts")]
+        path = os.path.join(top, "crates", crate, "proofs", *function.split("."), "Proof.antt")
+        if os.path.isfile(path):
+            for line in proof(path, crate, function.split(".")[-1].lstrip("+"), of):
+                print(line)

@@ -16,7 +16,14 @@ top = sys.argv[1] if len(sys.argv) > 1 else "."
 found, fields = declared(top)
 # theorem_unique's fields have the functions' own names, and no lemma stands beside them
 plain = {snake(n) for n, at in found.items() if "-" not in n and not all("/theorem_unique/" in p for p in at)}
-falling = {n for n in found if "-" in n and n[0].islower() and snake(n) in plain}
+lent = {}
+for path in texts(top):
+    text = read(path)
+    for at, names in re.findall(r"(?m)^use ([^\s{]+)\.\{([^}]*)\}", text):
+        if not at.startswith("Rattle"):
+            for n in re.split(r"[,\s]+", names):
+                lent.setdefault(snake(n), set()).add(path)
+falling = {n for n in found if "-" in n and n[0].islower() and (snake(n) in plain or lent.get(snake(n), set()) & found[n])}
 
 
 def turned(path, text):

@@ -27,6 +27,12 @@ for old in clash:
     del turn[old]
 
 
+# A name that the file has from a library is the library's.
+def lent(text):
+    lines = re.findall(r"(?m)^(?:ghost )?use ([^\s{;]+)\.\{([^}]*)\}", text)
+    return {n for at, names in lines for n in re.split(r"[,\s]+", names) if not re.match(r"Rattle\.(?!std\b)", at)}
+
+
 # What a function's own proof declares stays, for Rattle asks for some of those names.
 def own(text):
     return set(re.findall(r"(?m)^\s*(?:abbrev )?(?:pub )?([^\s(){};,.:]+)\s*:\s", text))
@@ -55,7 +61,7 @@ def after_module(text, at):
 GHOST = re.compile(r"//[^\n]*|ghost use [^;]*;|\b(?:requires|ensures|ghost)\*?(?: \w+)? ?\{")
 
 
-def source(text):
+def source(text, keep):
     """The parts of a .rt file that are clauses, ghost lines or comments are turned."""
     out, at = [], 0
     while True:
@@ -69,13 +75,14 @@ def source(text):
             while depth:
                 depth += {"{": 1, "}": -1}.get(text[end], 0)
                 end += 1
-        out += [text[at : m.start()], turned(text[m.start() : end], set(), "")]
+        out += [text[at : m.start()], turned(text[m.start() : end], keep, "")]
         at = end
 
 
 for path in texts(top, (".antt", ".rt")):
     old = read(path)
-    new = source(old) if path.endswith(".rt") else turned(old, own(old) if of_function(path) else set(), path)
+    keep = lent(old) | (own(old) if of_function(path) else set())
+    new = source(old, keep) if path.endswith(".rt") else turned(old, keep, path)
     if new != old:
         with open(path, "w", encoding="utf-8") as f:
             f.write(new)

@@ -14,6 +14,11 @@ from common import read, texts
 
 top, out = sys.argv[1], sys.argv[2]
 only = set(sys.argv[3:])
+NAMED = ("args", "auto", "new", "old", "ranges", "type_inv", "now", "initial", "ensures", "requires", "pre")
+OWN = re.compile(
+    r"^(overflow-(add|sub|mul|shl|shr|cast|step)|nonzero-(div|rem)|(offset|slice)-bounds|(invariant|shape)-of|no-deeper"
+    r"|type-inv|well-formed|view-is|loan-name|yielded-by|len-below|len-at-least|in-(default|ok|err)|call-mut|element-fits)$"
+)
 WORDS = {"inv": "invariant", "taken": "true", "left": "false", "kept": "auto", "given": "requires"}
 
 
@@ -99,15 +104,33 @@ def proof(path, crate, name, of):
 
     text = re.sub(r"\btie\.([^\s(){};,.]+)", after_tie, text)
 
+    params = {callee: [p for p in ps] for callee, ps in of.get("params", {}).items()}
+    alias = {}
+
     def path_of(m):
         words = m[0].split(".")
         done = [words[0]]
-        last = None
-        for w in words[1:]:
+        last = alias.get(words[0])
+        at = 0
+        words = words[1:]
+        while at < len(words):
+            w = words[at]
+            at += 1
+            w = re.sub(OWN, lambda it: it[0].replace("-", "_"), w)
             if w == "before" or w == "":
                 done.append(w)
+                last = None
                 continue
-            if last is None and key(w) in steps and w not in ("args",):
+            # `.auto.1.1.0` is the third parameter's
+            if w in ("0", "1") and done[-1] in ("auto", "new") and last in callees and callees[last] in params:
+                k, to = 0, at - 1
+                while to < len(words) and words[to] == "1":
+                    k, to = k + 1, to + 1
+                if to < len(words) and words[to] == "0" and k < len(params[callees[last]]):
+                    done.append(params[callees[last]][k])
+                    at = to + 1
+                    continue
+            if last is None and key(w) in steps and done[-1] not in NAMED and done[-1] != "c.args":
                 last = steps[key(w)]
                 done.append(last)
                 continue
@@ -129,8 +152,13 @@ def proof(path, crate, name, of):
 
     lines = []
     for line in text.split("\n"):
+        if line[:1].strip():
+            alias.clear()
         if not line.startswith("use ") and not line.lstrip().startswith("--"):
             line = re.sub(r"(?<![\w.])(?:[a-zλ][^\s(){};,.]*|\))(?:\.[^\s(){};,.]+)+", path_of, line)
+            for bound in re.finditer(r"\blet ([^\s:]+) = ([^\s(){};,]+) in", line):
+                end = bound[2].split(".")[-1]
+                alias[bound[1]] = end if end in steps.values() else None
         lines.append(line)
     text = "\n".join(lines)
     text = re.sub(r"(?m)^(pub )?([^\s:]+[-_]spec)( :| =)", lambda m: (m[1] or "") + name + "_spec" + m[3], text)

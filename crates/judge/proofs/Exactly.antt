@@ -1,7 +1,7 @@
 -- How "exactly when" goes through two judgements one after the other, through n of them, and through an answer. Assumes nothing.
 use Prim.Native.Nat.{ℕ, zero, suc, ◌+◌, ◌<◌}
 use mathlib.Core.Path.{◌≡◌, refl, sym, ap, subst, ◌∙◌}
-use mathlib.Core.Bool.{Bool, true, false, ◌&&◌, true≢false, and_false}
+use mathlib.Core.Bool.{Bool, true, false, ◌&&◌, true≢false, and-false}
 use mathlib.Core.Logic.{◌⊎◌, inl, inr, ⊎_elim}
 use native.Mathlib.Nat.{zero-add, add-zero, not-suc-le-zero}
 use native.Mathlib.Omega.{arith}
@@ -113,7 +113,7 @@ one_false false b e = inl refl
 module _ {a b : Bool} {Good Bad Right Wrong : Type 0} (x : Tells a Good Bad) (y : Tells b Right Wrong) where
   either_bad : Bad ⊎ Wrong → a && b ≡ false
   either_bad (inl p) = rw (x.bad p)
-  either_bad (inr p) = rw (y.bad p) (and_false a)
+  either_bad (inr p) = rw (y.bad p) (and-false a)
 
   pub both_tell : Tells (a && b) (Good × Right) (Bad ⊎ Wrong)
   both_tell = record {

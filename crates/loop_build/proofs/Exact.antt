@@ -1,7 +1,7 @@
 -- Each refusal of `build` is given exactly when SCOPE 25 says, in the order of SCOPE 26: both directions. Assumes nothing.
 use Prim.Native.Nat.{ℕ, suc, ◌*◌, ◌/◌, ◌%◌}
 use mathlib.Core.Path.{◌≡◌, refl}
-use mathlib.Core.Bool.{Bool, true, false, ◌&&◌, ◌||◌, cond, or_true}
+use mathlib.Core.Bool.{Bool, true, false, ◌&&◌, ◌||◌, cond, or-true}
 use mathlib.Core.List.{List}
 use lib.ListN.{length}
 use lib.Dec.{eqb, leb, ltb}
@@ -47,8 +47,8 @@ module _ (n p q r : ℕ) where
   why_room : (k : ℕ) → RoomWhy n p q r k → room_fault n p q r ≡ k
   unfolding room_fault
   why_room _ (short_positions h s) = rw (le-leb 3 n h, lt-ltb p (3 * n) s)
-  why_room _ (short_normals h s) = rw (le-leb 3 n h, lt-ltb q (3 * n) s, or_true)
-  why_room _ (short_classes h s) = rw (le-leb 3 n h, lt-ltb r n s, or_true)
+  why_room _ (short_normals h s) = rw (le-leb 3 n h, lt-ltb q (3 * n) s, or-true)
+  why_room _ (short_classes h s) = rw (le-leb 3 n h, lt-ltb r n s, or-true)
   why_room _ (fewer h) = rw (lt-leb 3 n h)
   why_room _ (all_fit f g h) = rw (le-ltb p (3 * n) f, le-ltb q (3 * n) g, le-ltb r n h) (none (leb 3 n))
     where

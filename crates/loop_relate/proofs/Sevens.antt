@@ -5,7 +5,7 @@ use mathlib.Core.Bool.{Bool, true, false}
 use mathlib.Core.List.{List}
 use native.Mathlib.Omega.{arith}
 use lib.Ieee.{Float}
-use borrow.Author.Tests.{not_false}
+use borrow.Author.Tests.{not-false}
 use Rattle.loop_header.specs.declared.Header.{Header}
 use Rattle.loop_ask.specs.Answers.{Told, refused, answer, judged}
 use Rattle.loop_relate.specs.Why.{Seven}
@@ -71,7 +71,7 @@ module _ (h : Header) (ps ns : List Float) (cs : List ℕ) (o : Header) (qs ms :
         one_mode = fine.1;
         not_full = b.0;
         not_empty = c.0;
-        meeting = not_false _ d.0;
+        meeting = not-false _ d.0;
         different = f.0;
         uncrossed = g.0;
         first_in = i.0;

@@ -6,7 +6,7 @@ use mathlib.Core.List.{List, ◌++◌, append-nil}
 use native.Mathlib.Omega.{arith}
 use lib.Ieee.{Float}
 use lib.ListN.{length, drop, drop_of_length-le}
-use borrow.Author.Tests.{not_true, not_false}
+use borrow.Author.Tests.{not-true, not-false}
 use Rattle.ring_theory.specs.Ring.{numbers}
 use Rattle.ring_theory.proofs.Numbers.{size, below}
 use Rattle.ring_theory.proofs.Theorem.{counted}
@@ -41,13 +41,13 @@ module _ {ps : List Float} {classes ids work : List ℕ} (w : Work ps classes id
 
     pub none_found : b ≡ false → record { answer = false; out = out } ≡ cut_ring_outcome ps classes out
     unfolding cut_ring_outcome
-    none_found f = rw (not_false (cutting_of ps classes).stuck (sym (ap (λ (o : Outcome). o.answer) done) ∙ f))
+    none_found f = rw (not-false (cutting_of ps classes).stuck (sym (ap (λ (o : Outcome). o.answer) done) ∙ f))
 
     pub all_found : {out' : List ℕ} → b ≡ true → length tris ≡ 3 * (length classes - 2) → out' ≡ tris' ++ drop (length tris') out
         → record { answer = true; out = out' } ≡ cut_ring_outcome ps classes out
     unfolding cut_ring_outcome
     all_found {out'} t s o =
-        let free : (cutting_of ps classes).stuck ≡ false = not_true (cutting_of ps classes).stuck (sym (ap (λ (o : Outcome). o.answer) done) ∙ t) in
+        let free : (cutting_of ps classes).stuck ≡ false = not-true (cutting_of ps classes).stuck (sym (ap (λ (o : Outcome). o.answer) done) ∙ t) in
         let n = all_cut w.ring free in
         let h : length tris ≤ length (cutting_of ps classes).triangles = omega arith in
         let are : tris' ≡ (cutting_of ps classes).triangles = ap (λ (o : Outcome). o.out) done ∙ rw (drop_of_length-le tris h, append-nil) in

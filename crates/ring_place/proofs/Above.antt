@@ -2,7 +2,7 @@
 use Prim.Native.Nat.{ℕ, zero, suc, ◌+◌, ◌-◌, ◌*◌, ◌/◌, ◌%◌, ◌^◌, ◌≤◌, ◌<◌}
 use mathlib.Core.Path.{◌≡◌, refl, sym, ap, ◌∙◌}
 use mathlib.Core.Bool.{Bool, true, false, not, ◌&&◌, false≢true}
-use native.Mathlib.Nat.{mul-one, one-mul, sub-zero, div_one, mul_assoc, mul-div_cancel, add_comm, add-sub_of_le, mul-pos, zero-lt-suc, lt_of_not-le}
+use native.Mathlib.Nat.{mul-one, one-mul, sub-zero, div-one, mul_assoc, mul-div_cancel, add_comm, add-sub_of_le, mul-pos, zero-lt-suc, lt_of_not-le}
 use native.Mathlib.Omega.{arith}
 use borrow.Author.Tests.{lt-ltb, le-ltb}
 use lib.IntN.{ℤ, pos, negsuc}
@@ -21,7 +21,7 @@ use Rattle.numbers.specs.Near.{abs, near}
 
 -- in units of 2^-1074 it is a whole number
 whole : (m : ℕ) (e : ℤ) (l : ℕ) → down e ≤ 2 ^ l → m * up e * 2 ^ l / down e * down e ≡ m * up e * 2 ^ l
-whole m (pos k) l h = rw (mul-one, div_one)
+whole m (pos k) l h = rw (mul-one, div-one)
 whole m (negsuc k) l h =
     let j = suc k in
     let s : l ≡ (l - j) + j = sym (add-sub_of_le (exponent_le j l h)) ∙ add_comm j (l - j) in

@@ -29,18 +29,18 @@ pub eight : (n : ℕ) → length (bytes8 n) ≡ 8
 unfolding bytes8
 eight n = refl
 
-is_nan : (x : Float) → is_nan x ≡ true → x ≡ nan
+is_nan_lem : (x : Float) → is_nan x ≡ true → x ≡ nan
 unfolding is_nan
-is_nan nan e = refl
-is_nan (inf s) e = absurd (false≢true e)
-is_nan (fin s m k) e = absurd (false≢true e)
+is_nan_lem nan e = refl
+is_nan_lem (inf s) e = absurd (false≢true e)
+is_nan_lem (fin s m k) e = absurd (false≢true e)
 
 pub nan_pattern : (b : ℕ) → 9218868437227405312 < b % 9223372036854775808 → div binary64 (of_bits binary64 0) (of_bits binary64 0) ≡ of_bits binary64 b
-nan_pattern b h = quotient ∙ sym (is_nan _ (sym (nan_bits_is binary64 b) ∙ nan_bits_above binary64 b ∙ lt-ltb _ _ h))
+nan_pattern b h = quotient ∙ sym (is_nan_lem _ (sym (nan_bits_is binary64 b) ∙ nan_bits_above binary64 b ∙ lt-ltb _ _ h))
 
 pub no_nan_pattern : (b : ℕ) → b % 9223372036854775808 ≤ 9218868437227405312 → T (not (nan_bits binary64 b))
 no_nan_pattern b h = subst (λ (t : Bool). T (not t)) (sym (nan_bits_above binary64 b ∙ le-ltb _ _ h)) tt
 
-pub nan_bits : (x : Float) → ne x x ≡ true → 9221120237041090560 ≡ to_bits binary64 x
+pub nan_bits_lem : (x : Float) → ne x x ≡ true → 9221120237041090560 ≡ to_bits binary64 x
 unfolding to_bits
-nan_bits x e = sym (ap (to_bits binary64) (differs_from_itself x (subst T (sym e) tt)))
+nan_bits_lem x e = sym (ap (to_bits binary64) (differs_from_itself x (subst T (sym e) tt)))

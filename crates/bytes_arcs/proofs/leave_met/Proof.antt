@@ -14,6 +14,6 @@ leave_met_spec =
     (tie.spec
     (λ c. search rules) (λ c κs. search rules) (λ c. search rules) (λ c. search rules) (λ c κs. search rules)
     (λ c. simp (c.refusal.ensures, c.before.before.m-1.requires.1))
-    (λ c. simp c.enum_told-1.requires.1 (room 0 [] c.before.before.before.args.out-1.now (omega arith) refl))
+    (λ c. simp c.enum_told-1.requires.1 (room 0 [] c.before.before.before.args.out.now (omega arith) refl))
     (λ c. search rules)
     (λ c. let l = c.before.before in simp l.before.before.before.m-in-At-1.requires.1 l.leave_point.ensures))

@@ -13,7 +13,7 @@ cut_parts_spec =
     (tie.spec
     (λ c κs. search rules) (λ c κs. search rules)
     (λ c. parts_refused _ _ _ _ c.before.before.cut_fault-f.ensures c.before.if-f-ne0.true c.refusal.ensures)
-    (λ c κs. few _ _ _ c.before.before.before.before.before.args.out-1.now c.before.cut_fault-f.ensures c.if-f-ne0.false refl)
+    (λ c κs. few _ _ _ c.before.before.before.before.before.args.out.now c.before.cut_fault-f.ensures c.if-f-ne0.false refl)
     (λ c. search rules) (λ c κs. search rules)
     (λ c. let count = c.before.before in
     let fine = count.before in

@@ -12,7 +12,7 @@ within : tie.Need-slice_bounds-text-end
 within c =
     let fit = c.before in
     let ran = fit.before.before.before in
-    omega (arith, fit.fitting-n.ensures.upper_bound.0, ran.run-size.ensures.upper_bound, ran.run-size.auto.1.0, ran.before.before.room-text.ensures)
+    omega (arith, fit.fitting-n.ensures.upper_bound.0, ran.run-size.ensures.upper_bound, ran.run-size.auto.out, ran.before.before.room-text.ensures)
 
 taken : tie.Need-slice_bounds-put_bytes-end
 taken c = sym (length-take-le _ _ (within c.before))

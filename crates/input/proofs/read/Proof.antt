@@ -40,7 +40,7 @@ returns : tie.Need-returns-then-n-eq0 invariant-loop decreases-loop
 returns c =
     let i = c.before.before.before.before.before in
     let l = i.before.before.before.loop-done in
-    subst (λ (r : Input). Within r i.read_from-got.new.0) (sym c.ended.ensures) (ended-within (to_z w64 (of_z w64 i.read_from-got.result)) l.done i.read_from-got.new.0 (omega (arith, i.read_from-got.auto.0, l.invariant.1)))
+    subst (λ (r : Input). Within r i.read_from-got.new.buf) (sym c.ended.ensures) (ended-within (to_z w64 (of_z w64 i.read_from-got.result)) l.done i.read_from-got.new.buf (omega (arith, i.read_from-got.auto.buf, l.invariant.1)))
 
 -- what a call put is within the buffer, which is as long as it was
 placed : (done n size after : ℕ) (z : ℤ) → SFits w64 z → done ≤ size → after ≡ size → Moved (size - done) z → n ≡ count_of (to_z w64 (of_z w64 z)) → done + n ≤ after
@@ -50,15 +50,15 @@ placed done n size after z f d k m e = omega (arith, counted (size - done) z m, 
 more : (c : tie.Else-n-eq0 invariant-loop decreases-loop) →
     let i = c.before.before.before.before in
     let l = i.before.before.before.loop-done in
-    (length i.read_from-got.new.0 ≡ length l.buf-1) × (l.done + c.before.count-n.result ≤ length i.read_from-got.new.0)
+    (length i.read_from-got.new.buf ≡ length l.buf) × (l.done + c.before.count-n.result ≤ length i.read_from-got.new.buf)
 more c =
     let i = c.before.before.before.before in
     let l = i.before.before.before.loop-done in
     let r = i.read_from-got in
-    (r.auto.0, placed l.done c.before.count-n.result (length l.buf-1) (length r.new.0) r.result (record { sfits = r.type-inv }) l.invariant.1 r.auto.0 r.ensures c.before.count-n.ensures)
+    (r.auto.buf, placed l.done c.before.count-n.result (length l.buf) (length r.new.buf) r.result (record { sfits = r.type_inv }) l.invariant.1 r.auto.buf r.ensures c.before.count-n.ensures)
 
 add_done : tie.Need-overflow_add-done invariant-loop decreases-loop
-add_done c = let i = c.before.before.before.before.before.before.before in omega (arith, (more c).0, (more c).1, i.loop-done.invariant.0, i.before.before.well-formed.0.0)
+add_done c = let i = c.before.before.before.before.before.before.before in omega (arith, (more c).0, (more c).1, i.loop-done.invariant.0, i.before.before.well_formed.0.0)
 
 loop-less : tie.Need-loop-done-smaller invariant-loop decreases-loop
 loop-less c = omega (arith, (more c).0, (more c).1, c.if-n-eq0.false, c.before.before.before.before.before.before.loop-done-test.true)

@@ -57,7 +57,7 @@ loop-again c =
     cut
     inside.before.loop-m.invariant inside.loop-m-test.true
     indexed.index_at-i.ensures asked.is_named.ensures named.if-not-is_named.false
-    refl done.ensures done.auto.1.0 done.auto.1.1.0
+    refl done.ensures done.auto.ids done.auto.classes
 
 is-last-requires : tie.Need-is_last-requires invariant-loop decreases-loop
 is-last-requires c κs =

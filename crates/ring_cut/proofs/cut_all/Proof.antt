@@ -33,7 +33,7 @@ loop-holds c =
     let listed = c.before.before in
     let given = (start_of listed.before).pre in
     let list = listed.list_apart-k in
-    begin given.0 given.1 given.3 (omega (arith, given.2, list.auto.1.1.0)) list.ensures
+    begin given.0 given.1 given.3 (omega (arith, given.2, list.auto.apart)) list.ensures
 
 lowest-ear-requires : tie.Need-lowest_ear-i-requires invariant-loop decreases-loop
 lowest-ear-requires c κs = let going = c.before.before.before.before.loop-m.invariant in (going.held.lent, going.listing.listed)
@@ -78,8 +78,8 @@ loop-again c =
     cut
     inside.before.loop-m.invariant inside.loop-m-test.true
     sought.lowest_ear-i.ensures ear.if-i-m.false
-    refl done.ensures.0 at-put.put_ear.ensures done.auto.1.0 done.auto.1.1.0
-    done.ensures.1 done.ensures.2 done.auto.1.1.1.0
+    refl done.ensures.0 at-put.put_ear.ensures done.auto.ids done.auto.classes
+    done.ensures.1 done.ensures.2 done.auto.apart
 
 returns-2 : tie.Need-returns invariant-loop decreases-loop
 returns-2 c =

@@ -9,7 +9,7 @@ returns c =
     let copied = c.before.before in
     let numbered = copied.before.before.before.before in
     let start = numbered.before.before.before.before.before in
-    started start.args.ids-1.now start.args.work-1.now start.requires.0 start.requires.1 numbered.number.ensures copied.copy_classes.ensures
+    started start.args.ids.now start.args.work.now start.requires.0 start.requires.1 numbered.number.ensures copied.copy_classes.ensures
 
 pub whole_ring_spec : {M : Type 1} → statement M
 whole_ring_spec =

@@ -13,7 +13,7 @@ reclassify-both-requires c κs =
     let removed = c.before.before.before.before in
     let given = removed.before.before.before.before.before.requires in
     let remove = removed.remove_at in
-    rw (taken _ _ given.1 _ remove.auto.0 remove.ensures) (lent_without given.0 given.1)
+    rw (taken _ _ given.1 _ remove.auto.ids remove.ensures) (lent_without given.0 given.1)
 
 returns : tie.Need-returns
 returns c =
@@ -22,7 +22,7 @@ returns c =
     let given = removed.before.before.before.before.before.requires in
     let both = classed.reclassify_both in
     let remove = removed.remove_at in
-    let left = taken _ _ given.1 _ remove.auto.0 remove.ensures in
+    let left = taken _ _ given.1 _ remove.auto.ids remove.ensures in
     (rw (both.ensures.0, left, remove.ensures), rw (both.ensures.1, left))
 
 pub cut_told_spec : {M : Type 1} → statement M

@@ -23,7 +23,7 @@ reclassify-requires-2 c κs =
     let first = c.before.before.before in
     let back = first.before.before in
     let wrap = back.before in
-    (relent (start_of wrap).pre.0 first.reclassify-a.auto.1.1.0, omega (arith, back.previous-before_cut.ensures.1, wrap.wrapped-at_cut.ensures.1))
+    (relent (start_of wrap).pre.0 first.reclassify-a.auto.classes, omega (arith, back.previous-before_cut.ensures.1, wrap.wrapped-at_cut.ensures.1))
 
 returns : tie.Need-returns-then-m-gt3
 unfolding reclassify_both one_changed

@@ -34,7 +34,7 @@ loop-holds c =
     let listed = c.before.before in
     let given = (start_of listed.before).pre in
     let list = listed.list_apart-count in
-    begin given.0 given.1 (omega (arith, given.2, list.auto.1.1.0)) list.ensures
+    begin given.0 given.1 (omega (arith, given.2, list.auto.apart)) list.ensures
 
 lowest-ear-requires : tie.Need-lowest_ear-i-requires invariant-loop decreases-loop
 lowest-ear-requires c κs = let seeking = c.before.before.before.before.loop-m.invariant in (seeking.held.lent, seeking.listing.listed)
@@ -87,8 +87,8 @@ loop-again c =
     inside.before.loop-m.invariant inside.loop-m-test.true
     sought.lowest_ear-i.ensures ear.if-i-m.false
     (rw added.before.mean_at.ensures at added.with_mean-f.ensures)
-    refl done.ensures.0 done.auto.1.0 done.auto.1.1.0
-    done.ensures.1 done.ensures.2 done.auto.1.1.1.0
+    refl done.ensures.0 done.auto.ids done.auto.classes
+    done.ensures.1 done.ensures.2 done.auto.apart
 
 mean-at-requires-2 : tie.Need-mean_at-requires-2 invariant-loop decreases-loop
 mean-at-requires-2 c κs = let held = c.before.before.loop-m.invariant.held in (indexed held.lent, omega arith, held.lent.few)

@@ -19,8 +19,8 @@ list-apart-requires c κs =
     let cut = c.before.before.before.before.before.before.before.before in
     let given = (start_of cut).pre in
     let told = cut.cut_told in
-    let lent = cut_lent given.0 given.1 told.ensures.0 told.auto.1.0 told.auto.1.1.0 in
-    (lent.below, cut_room given.0 given.1 told.ensures.0 told.auto.1.0 told.auto.1.1.0 given.5, lent.few)
+    let lent = cut_lent given.0 given.1 told.ensures.0 told.auto.ids told.auto.classes in
+    (lent.below, cut_room given.0 given.1 told.ensures.0 told.auto.ids told.auto.classes given.5, lent.few)
 
 returns : tie.Need-returns-then-cut_told
 returns c =
@@ -28,7 +28,7 @@ returns c =
     let cut = listed.before.before.before.before.before.before.before.before.before in
     let given = (start_of cut).pre in
     let told = cut.cut_told in
-    let list = list_afresh given.0 given.1 told.ensures.0 told.auto.1.0 told.auto.1.1.0 listed.list_apart.ensures in
+    let list = list_afresh given.0 given.1 told.ensures.0 told.auto.ids told.auto.classes listed.list_apart.ensures in
     (told.ensures.0, list.0, omega (arith, list.1, given.5))
 
 returns-2 : tie.Need-returns
@@ -37,7 +37,7 @@ returns-2 c =
     let given = (start_of cut).pre in
     let told = cut.cut_told in
     let same = sym told.ensures.1 ∙ c.if-cut_told.false in
-    let list = list_kept given.0 given.1 told.ensures.0 told.auto.1.0 told.auto.1.1.0 given.2 given.3 same in
+    let list = list_kept given.0 given.1 told.ensures.0 told.auto.ids told.auto.classes given.2 given.3 same in
     (told.ensures.0, list, given.4)
 
 pub cut_apart_spec : {M : Type 1} → statement M

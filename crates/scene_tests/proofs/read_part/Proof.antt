@@ -20,7 +20,7 @@ returns-3 : tie.Need-returns
 returns-3 c =
     let f = c.before.before.before.before.read in
     let s = c.before.before.before.before.before.before in
-    grown _ f.new.0 _ (omega (arith, f.auto.0, length-take-le s.before.read_number-size.result s.before.before.before.args.buf-1.now s.if-buf-size.false))
+    grown _ f.new.buf _ (omega (arith, f.auto.buf, length-take-le s.before.read_number-size.result s.before.before.before.args.buf.now s.if-buf-size.false))
 
 pub read_part_spec : {M : Type 1} → statement M
 read_part_spec =

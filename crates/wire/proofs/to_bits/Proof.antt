@@ -1,5 +1,5 @@
 use Rattle.root.proofs.Floats.{not_nan}
-use Rattle.wire.proofs.Bytes.{nan_bits}
+use Rattle.wire.proofs.Bytes.{nan_bits_lem}
 use borrow.Author.Rules.{rules}
 use Rattle.wire.proofs.to_bits.Statement.{statement}
 use Rattle.wire.proofs.to_bits.Tie as tie
@@ -9,5 +9,5 @@ to_bits_spec =
     tie.close
     (tie.spec
     (λ c. not_nan _ c.if-x.false)
-    (λ c. nan_bits _ c.if-x.true)
+    (λ c. nan_bits_lem _ c.if-x.true)
     (λ c. search rules))

@@ -1,7 +1,7 @@
 #!/usr/bin/env python3
 """Run at the top, after port.py and names.py, with the folder that `rt names OUT` wrote: brings each function's Proof.antt to the names that Rattle makes today.
 
-Of a goal, a place of the code, a step or a loop the list has the older name and today's. A clause that a step ensures goes by its name where it has one.
+Of a goal, a place of the code, a step or a loop the list has the older name and today's. Clauses go by their order in a walk.
 """
 
 import json
@@ -51,12 +51,17 @@ def clauses():
 CLAUSES = clauses()
 
 
-def clause(callee, kind, at):
-    parts = callee.split("::")
-    heads = CLAUSES.get((parts[0], parts[-1]), [])
-    if len(heads) != 1 or at >= len(heads[0][kind]):
-        return None
-    return heads[0][kind][at]
+INDEX = {}
+for heads in CLAUSES.values():
+    for head in heads:
+        for kind in ("requires", "ensures"):
+            for at, word in enumerate(head[kind]):
+                if word:
+                    INDEX.setdefault(word, set()).add(at)
+for word in [w for w, at in INDEX.items() if len(at) > 1]:
+    print("a clause's name that stands at several indexes:", word, sorted(INDEX[word]))
+    del INDEX[word]
+INDEX = {w: min(at) for w, at in INDEX.items()}
 
 
 def proof(path, crate, name, of):
@@ -137,16 +142,10 @@ def proof(path, crate, name, of):
             if last is not None and w in WORDS:
                 done.append(WORDS[w])
                 continue
-            if w.isdigit() and done[-1] == "ensures" and last in callees:
-                named = clause(callees[last], "ensures", int(w))
-                if named:
-                    done.append(named)
-                    continue
-            if w.isdigit() and done[-1] in ("pre", "requires") and last is None:
-                named = clause(f"{crate}::{name}", "requires", int(w))
-                if named:
-                    done.append(named)
-                    continue
+            # in a walk the clauses go by their order
+            if done[-1] in ("ensures", "requires", "pre") and w in INDEX:
+                done.append(str(INDEX[w]))
+                continue
             done.append(w)
         return ".".join(done)
 
@@ -158,7 +157,7 @@ def proof(path, crate, name, of):
             line = re.sub(r"(?<![\w.])(?:[a-zλ][^\s(){};,.]*|\))(?:\.[^\s(){};,.]+)+", path_of, line)
             for bound in re.finditer(r"\blet ([^\s:]+) = ([^\s(){};,]+) in", line):
                 end = bound[2].split(".")[-1]
-                alias[bound[1]] = end if end in steps.values() else None
+                alias[bound[1]] = end if end in steps.values() or end in NAMED else None
         lines.append(line)
     text = "\n".join(lines)
     text = re.sub(r"(?m)^(pub )?([^\s:]+[-_]spec)( :| =)", lambda m: (m[1] or "") + name + "_spec" + m[3], text)

@@ -17,7 +17,7 @@ returns-2 c =
     let other = c.before in
     let tested = other.before in
     let product = tested.before in
-    simp (← product.before.orthogonal_to.ensures, ← product.dot_prod-s.ensures, ← tested.eq_zero.ensures, other.if-eq_zero.false, c.by_sign_lem.ensures)
+    simp (← product.before.orthogonal_to.ensures, ← product.dot_prod-s.ensures, ← tested.eq_zero.ensures, other.if-eq_zero.false, c.by_sign.ensures)
 
 pub retest_spec : {M : Type 1} → statement M
 retest_spec =

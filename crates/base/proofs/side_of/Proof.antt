@@ -13,4 +13,4 @@ side_of_spec =
     let h = simp (t.abs.ensures, t.before.dot_prod-t.ensures, t.before.before.cross_prod.ensures) at c.before.if-abs.true in
     simp (h, c.retest.ensures)) (λ c. let t = c.before.before in
     let h = simp (t.abs.ensures, t.before.dot_prod-t.ensures, t.before.before.cross_prod.ensures) at c.before.if-abs.false in
-    simp (h, c.by_sign_lem.ensures, t.before.dot_prod-t.ensures, t.before.before.cross_prod.ensures)))
+    simp (h, c.by_sign.ensures, t.before.dot_prod-t.ensures, t.before.before.cross_prod.ensures)))

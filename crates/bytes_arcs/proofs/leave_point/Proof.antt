@@ -10,8 +10,8 @@ leave_point_spec =
     (tie.spec
     (λ c κs. search rules)
     (λ c. let a = c.before.before.before.args in
-    no_room a.number (a.p ∷ []) a.out-1.now c.before.if-out-lt24.true c.refusal.ensures)
+    no_room a.number (a.p ∷ []) a.out.now c.before.if-out-lt24.true c.refusal.ensures)
     (λ c κs. search rules) (λ c. search rules)
     (λ c. let f = c.before.before in
     let a = f.before.before.before.before.args in
-    room a.number (a.p ∷ []) a.out-1.now f.before.before.if-out-lt24.false (one_written a.out-1.now a.p f.put_vec.ensures)))
+    room a.number (a.p ∷ []) a.out.now f.before.before.if-out-lt24.false (one_written a.out.now a.p f.put_vec.ensures)))

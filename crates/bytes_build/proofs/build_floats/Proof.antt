@@ -12,7 +12,7 @@ returns c =
     let short = fault.before in
     let start = short.before.before.before.before.before.before in
     let a = start.args in
-    unheaded a.mode a.list.now a.positions-1.now a.normals-1.now a.classes-1.now a.header-1.now (omega (arith, short.if-header-lt-HEADER.true))
+    unheaded a.mode a.list.now a.positions.now a.normals.now a.classes.now a.header.now (omega (arith, short.if-header-lt-HEADER.true))
     (simp (first.first.ensures, fault.list_fault.ensures) at c.refusal.ensures)
 
 leave-header-requires : tie.Need-leave_header-requires
@@ -21,7 +21,7 @@ leave-header-requires c κs =
     let room = built.before.before.before.before in
     let start = room.before.before.before.before.before.before in
     let a = start.args in
-    (counted_told a.mode a.list.now a.positions-1.now a.normals-1.now a.classes-1.now a.header-1.now built.build.ensures, room.if-header-lt-HEADER.false)
+    (counted_told a.mode a.list.now a.positions.now a.normals.now a.classes.now a.header.now built.build.ensures, room.if-header-lt-HEADER.false)
 
 returns-2 : tie.Need-returns
 returns-2 c =
@@ -30,7 +30,7 @@ returns-2 c =
     let room = built.before.before.before.before in
     let start = room.before.before.before.before.before.before in
     let a = start.args in
-    headed a.mode a.list.now a.positions-1.now a.normals-1.now a.classes-1.now a.header-1.now built.build.ensures room.if-header-lt-HEADER.false
+    headed a.mode a.list.now a.positions.now a.normals.now a.classes.now a.header.now built.build.ensures room.if-header-lt-HEADER.false
     left.leave_header.ensures
 
 pub build_floats_spec : {M : Type 1} → statement M

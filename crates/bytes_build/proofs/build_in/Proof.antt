@@ -10,7 +10,7 @@ returns c =
     let read = built.before.before.before.before.before.before.before.before in
     let start = read.before.before.before.before.before.before.before.before in
     let a = start.args in
-    read_list a.mode a.list.now a.out-1.now _ read.read_floats.ensures start.requires.1 built.build_from.ensures
+    read_list a.mode a.list.now a.out.now _ read.read_floats.ensures start.requires.1 built.build_from.ensures
 
 pub build_in_spec : {M : Type 1} → statement M
 build_in_spec =

@@ -21,17 +21,17 @@ accepts_spec =
     (λ c. search rules)
     (λ c κs. search rules)
     (λ c. let e = c.before.before in
-    omega (arith, small _ refl (list_fine _ _ e.before.list_fault-f.ensures e.if-f-ne0.false) c.before.count_at-size.ensures.value))
+    omega (arith, small _ refl (list_fine _ _ e.before.list_fault-f.ensures e.if-f-ne0.false) c.before.count_at-size.ensures.0))
     (λ c. let e = c.before.before.before in
-    sym (first_of_lem 1536 F.zero (omega (arith, small _ refl (list_fine _ _ e.before.list_fault-f.ensures e.if-f-ne0.false) c.before.before.count_at-size.ensures.value))))
+    sym (first_of_lem 1536 F.zero (omega (arith, small _ refl (list_fine _ _ e.before.list_fault-f.ensures e.if-f-ne0.false) c.before.before.count_at-size.ensures.0))))
     (λ c. search rules)
-    (λ c. sym (first_of_lem 1533 0 c.before.before.numbers_for-count.ensures.upper_bound.0))
+    (λ c. sym (first_of_lem 1533 0 c.before.before.numbers_for-count.ensures.1.0))
     (λ c κs. let k = c.before.before in
     let n = k.before in
     let z = list_fine _ _ n.before.before.list_fault-f.ensures n.before.if-f-ne0.false in
-    let m = small _ refl z n.count_at-size.ensures.value in
-    (array _ refl z n.count_at-size.ensures.value (first_of_lem 1536 F.zero (omega arith)), halved (first_of_lem {A = ℕ} 1533 0 k.numbers_for-count.ensures.upper_bound.0) k.numbers_for-count.ensures.upper_bound.1))
+    let m = small _ refl z n.count_at-size.ensures.0 in
+    (array _ refl z n.count_at-size.ensures.0 (first_of_lem 1536 F.zero (omega arith)), halved (first_of_lem {A = ℕ} 1533 0 k.numbers_for-count.ensures.1.0) k.numbers_for-count.ensures.1.1))
     (λ c. let k = c.before.before.before.before.before in
     let e = k.before.before in
     let a = e.before.before.before.before.args in
-    list_late a.s.now a.list.now e.before.list_fault-f.ensures e.if-f-ne0.false (first_of_lem {A = ℕ} 1533 0 k.numbers_for-count.ensures.upper_bound.0) k.numbers_for-count.ensures.value c.before.before.accepts_in.ensures))
+    list_late a.s.now a.list.now e.before.list_fault-f.ensures e.if-f-ne0.false (first_of_lem {A = ℕ} 1533 0 k.numbers_for-count.ensures.1.0) k.numbers_for-count.ensures.0 c.before.before.accepts_in.ensures))

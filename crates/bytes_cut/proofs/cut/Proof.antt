@@ -18,15 +18,15 @@ cut_spec =
     (λ c κs. omega (arith, (copies _ c.before.copy_fault-f.ensures c.if-f-ne0.false).size))
     (λ c. search rules)
     (λ c. let fine = c.before in
-    omega (arith, small _ fine.before.copy_fault-f.ensures fine.if-f-ne0.false c.count_at-size.ensures.value))
+    omega (arith, small _ fine.before.copy_fault-f.ensures fine.if-f-ne0.false c.count_at-size.ensures.0))
     (λ c. let count = c.before in
     let fine = count.before in
-    sym (first_of_lem 1536 F.zero (omega (arith, small _ fine.before.copy_fault-f.ensures fine.if-f-ne0.false count.count_at-size.ensures.value))))
+    sym (first_of_lem 1536 F.zero (omega (arith, small _ fine.before.copy_fault-f.ensures fine.if-f-ne0.false count.count_at-size.ensures.0))))
     (λ c κs. let count = c.before.before in
     let fine = count.before in
     let fault = fine.before.copy_fault-f.ensures in
-    let few = small _ fault fine.if-f-ne0.false count.count_at-size.ensures.value in
-    array _ fault fine.if-f-ne0.false count.count_at-size.ensures.value (first_of_lem 1536 F.zero (omega arith)))
+    let few = small _ fault fine.if-f-ne0.false count.count_at-size.ensures.0 in
+    array _ fault fine.if-f-ne0.false count.count_at-size.ensures.0 (first_of_lem 1536 F.zero (omega arith)))
     (λ c. search rules)
     (λ c. let copied = c.before.before.before in
     let fine = copied.before.before.before.before in

@@ -17,18 +17,18 @@ cut_parts_spec =
     (λ c. search rules) (λ c κs. search rules)
     (λ c. let count = c.before.before in
     let fine = count.before in
-    no_room _ _ _ _ fine.before.cut_fault-f.ensures fine.if-f-ne0.false count.triples_of-m.ensures.value c.before.if-out-m.true c.refusal-then-out-m.ensures)
+    no_room _ _ _ _ fine.before.cut_fault-f.ensures fine.if-f-ne0.false count.triples_of-m.ensures.0 c.before.if-out-m.true c.refusal-then-out-m.ensures)
     (λ c. search rules) (λ c. search rules)
     (λ c. sym (first_of_lem 1530 0 (omega arith)))
     (λ c κs. let count = c.before.before.before in
     let fine = count.before in
     let fault = fine.before in
     let a = fault.before.before.before.before.args in
-    let many = count.triples_of-m.ensures.value in
-    (few _ _ _ a.out-1.now fault.cut_fault-f.ensures fine.if-f-ne0.false many, triples_size 1530 count.triples_of-m.result (omega arith) many, omega arith))
+    let many = count.triples_of-m.ensures.0 in
+    (few _ _ _ a.out.now fault.cut_fault-f.ensures fine.if-f-ne0.false many, triples_size 1530 count.triples_of-m.result (omega arith) many, omega arith))
     (λ c. search rules)
     (λ c. let cut = c.before.before.before in
     let room = cut.before.before.before in
     let count = room.before in
     let fine = count.before in
-    roomy _ _ _ _ fine.before.cut_fault-f.ensures fine.if-f-ne0.false count.triples_of-m.ensures.value room.if-out-m.false (front_blank 1530 (omega arith)) cut.cut_into.ensures))
+    roomy _ _ _ _ fine.before.cut_fault-f.ensures fine.if-f-ne0.false count.triples_of-m.ensures.0 room.if-out-m.false (front_blank 1530 (omega arith)) cut.cut_into.ensures))

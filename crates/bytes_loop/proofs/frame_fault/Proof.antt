@@ -13,7 +13,7 @@ frame_fault_spec =
     (tie.spec
     (λ c. frame_wrong _ (λ e. omega arith))
     (λ c κs. search rules) (λ c. search rules) (λ c. search rules)
-    (λ c. frame_wrong _ (simp c.before.count_at.ensures.value at c.if-s-count_at.true))
+    (λ c. frame_wrong _ (simp c.before.count_at.ensures.0 at c.if-s-count_at.true))
     (λ c. search rules)
-    (λ c. frame_state _ (simp c.before.before.before.count_at.ensures.value at c.before.before.if-s-count_at.false) (simp (lt-ltb _ _ c.if-s-gt2.true)))
-    (λ c. frame_state _ (simp c.before.before.before.count_at.ensures.value at c.before.before.if-s-count_at.false) (simp (le-ltb _ _ c.if-s-gt2.false))))
+    (λ c. frame_state _ (simp c.before.before.before.count_at.ensures.0 at c.before.before.if-s-count_at.false) (simp (lt-ltb _ _ c.if-s-gt2.true)))
+    (λ c. frame_state _ (simp c.before.before.before.count_at.ensures.0 at c.before.before.if-s-count_at.false) (simp (le-ltb _ _ c.if-s-gt2.false))))

@@ -20,7 +20,7 @@ returns c =
       insides.insides_at-insides.ensures,
       cap.cap_at-cap.ensures,
       state.state_of-state.ensures,
-      count.count_at-count.ensures.value,
+      count.count_at-count.ensures.0,
     )
 
 pub header_at_spec : {M : Type 1} → statement M

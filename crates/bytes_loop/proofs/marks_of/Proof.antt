@@ -11,12 +11,12 @@ returns c =
     let weak = there.before in
     let reversed = weak.before in
     simp (
-      c.mark_if.ensures.value,
+      c.mark_if.ensures.0,
       long.is_long.ensures,
-      insides.mark_if-c.ensures.value,
+      insides.mark_if-c.ensures.0,
       there.are_there.ensures,
-      weak.mark_if-b.ensures.value,
-      reversed.mark_if-a.ensures.value,
+      weak.mark_if-b.ensures.0,
+      reversed.mark_if-a.ensures.0,
     )
 
 pub marks_of_spec : {M : Type 1} → statement M

@@ -20,6 +20,6 @@ put_header_spec =
     let front = cap.before.before.before.before in
     let a = front.before.before.before.before.before.args in
     let bytes = front_bytes a.h.count (state_code a.h.state) (marks_of a.h) in
-    three a.out-1.now bytes (cap_bytes a.h.cap) (insides_bytes a.h.insides) 0 8 40
+    three a.out.now bytes (cap_bytes a.h.cap) (insides_bytes a.h.insides) 0 8 40
     (simp (front.before.marks_of.ensures, front.before.before.state_code.ensures) at front.put_front.ensures)
     cap.put_cap.ensures insides.put_insides.ensures refl (simp (length-append, eight)) (omega arith)))

@@ -16,6 +16,6 @@ put_insides_spec =
     (λ c. let second = c.before.before in
     let first = second.before.before.before.before.before in
     let a = first.before.before.before.before.args in
-    two a.out-1.now (vec_bytes (first_inside a.i)) (vec_bytes (second_inside a.i)) 40 64
+    two a.out.now (vec_bytes (first_inside a.i)) (vec_bytes (second_inside a.i)) 40 64
     (simp first.before.first_inside.ensures at first.put_vec.ensures) (simp second.before.second_inside.ensures at second.put_vec-2.ensures)
     (omega (arith, width (first_inside a.i)))))

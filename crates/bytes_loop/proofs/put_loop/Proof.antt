@@ -16,5 +16,5 @@ put_loop_spec =
     let header = positions.before.before.before.before in
     let start = header.before.before.before.before.before.before in
     let a = start.args in
-    laid a.h a.positions.now a.normals.now a.classes.now a.out-1.now start.requires
+    laid a.h a.positions.now a.normals.now a.classes.now a.out.now start.requires
     header.put_header.ensures positions.put_floats.ensures normals.put_floats-2.ensures classes.put_bytes.ensures))

@@ -15,5 +15,5 @@ read_vectors_spec =
     let count = positions.before.before in
     let start = count.before.before.before.before in (
       positions_read start.args.s.now positions.read_floats.ensures start.requires.for_positions,
-      normals_read start.args.s.now normals.read_floats-2.ensures count.count_at.ensures.value start.requires.for_normals,
+      normals_read start.args.s.now normals.read_floats-2.ensures count.count_at.ensures.0 start.requires.for_normals,
     )))

@@ -14,5 +14,5 @@ copy_second_spec =
     let read = header.before.before.before.before.before in
     let from = read.before.before.before in
     let start = from.before.before.before.before.before.before.before in
-    simp (header.header_at-o.ensures, read.read_vectors.ensures.positions_after, read.read_vectors.ensures.normals_after, classes_read start.args.b.now from.classes_from-from.ensures)
+    simp (header.header_at-o.ensures, read.read_vectors.ensures.0, read.read_vectors.ensures.1, classes_read start.args.b.now from.classes_from-from.ensures)
     at c.compare.ensures))

@@ -12,13 +12,13 @@ within : tie.Need-slice_bounds-text-end
 within c =
     let fit = c.before in
     let ran = fit.before.before.before in
-    omega (arith, fit.fitting-n.ensures.upper_bound.0, ran.run-size.ensures.upper_bound, ran.run-size.auto.out, ran.before.before.room-text.ensures)
+    omega (arith, fit.fitting-n.ensures.1.0, ran.run-size.ensures.1, ran.run-size.auto.out, ran.before.before.room-text.ensures)
 
 taken : tie.Need-slice_bounds-put_bytes-end
 taken c = sym (length-take-le _ _ (within c.before))
 
 fits : tie.Need-put_bytes-requires
-fits c κs = rw (length-take-le _ _ (within c.before)) (omega (arith, c.before.before.fitting-n.ensures.upper_bound.1))
+fits c κs = rw (length-take-le _ _ (within c.before)) (omega (arith, c.before.before.fitting-n.ensures.1.1))
 
 returns : tie.Need-returns
 returns c =
@@ -26,7 +26,7 @@ returns c =
     let fit = put.before.before.before in
     let answer = fit.before in
     let ran = answer.before.before in
-    all_or_nothing _ _ _ ran.run-size.ensures.wrote (omega (arith, ran.run-size.ensures.upper_bound, ran.before.before.room-text.ensures)) answer.size_answer-answer.ensures fit.fitting-n.ensures.value put.put_bytes.ensures
+    all_or_nothing _ _ _ ran.run-size.ensures.0 (omega (arith, ran.run-size.ensures.1, ran.before.before.room-text.ensures)) answer.size_answer-answer.ensures fit.fitting-n.ensures.0 put.put_bytes.ensures
 
 pub scene_spec : {M : Type 1} → statement M
 scene_spec =

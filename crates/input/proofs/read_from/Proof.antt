@@ -15,8 +15,8 @@ returns : tie.Need-returns
 returns c =
     let a = c.before.before.before.before.before.args in
     let r = c.before.before.read in
-    let part = length-take-le (length a.buf-1.now - a.done) (drop a.done a.buf-1.now) (rw length-drop (omega arith)) in
-    subst (λ (z : ℤ). Moved (length a.buf-1.now - a.done) z) (sym (read_back {z = r.result} (record { sfits = r.type_inv })))
+    let part = length-take-le (length a.buf.now - a.done) (drop a.done a.buf.now) (rw length-drop (omega arith)) in
+    subst (λ (z : ℤ). Moved (length a.buf.now - a.done) z) (sym (read_back {z = r.result} (record { sfits = r.type_inv })))
     (subst (λ (n : ℕ). Moved n r.result) part r.ensures)
 
 pub read_from_spec : {M : Type 1} → statement M

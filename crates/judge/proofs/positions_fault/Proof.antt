@@ -9,14 +9,14 @@ use Rattle.judge.proofs.positions_fault.Tie as tie
 returns-number : tie.Need-returns
 returns-number c =
     let found = c.before.before in
-    one_refused _ _ found.before.first_refused-i.ensures.value found.if-n-i.false (c.fault.ensures ∙ ap fault_of c.before.at.ensures)
+    one_refused _ _ found.before.first_refused-i.ensures.0 found.if-n-i.false (c.fault.ensures ∙ ap fault_of c.before.at.ensures)
 
 pub positions_fault_spec : {M : Type 1} → statement M
 positions_fault_spec =
     tie.close
     (tie.spec
     (λ c κs. search rules)
-    (λ c. none_refused _ _ c.before.first_refused-i.ensures.value c.if-n-i.true)
+    (λ c. none_refused _ _ c.before.first_refused-i.ensures.0 c.if-n-i.true)
     (λ c κs. search rules)
     (λ c κs. search rules)
     returns-number)

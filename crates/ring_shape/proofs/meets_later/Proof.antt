@@ -15,7 +15,7 @@ decreases-loop mode positions normals n i end j₀ j = end - j
 
 loop-holds : tie.Need-loop-j-init invariant-loop decreases-loop
 unfolding meets_later
-loop-holds c = record { within = omega arith; rest = simp c.end_of_lem.ensures.0 }
+loop-holds c = record { within = omega arith; rest = simp c.end_of-end.ensures.0 }
 
 returns : tie.Need-returns-then-edges_meet invariant-loop decreases-loop
 returns c =

@@ -14,7 +14,7 @@ unfolding refusal_report
 returns-index c =
     let listed = c.before in
     let asked = listed.before.is_of_positions in
-    simp (← asked.ensures, not-false asked.result listed.if-not-is_of_positions.false, c.first_refused.ensures.value)
+    simp (← asked.ensures, not-false asked.result listed.if-not-is_of_positions.false, c.first_refused.ensures.0)
 
 pub refusal_spec : {M : Type 1} → statement M
 refusal_spec = tie.close (tie.spec (λ c κs. search rules) returns-number (λ c. search rules) (λ c κs. search rules) returns-index)

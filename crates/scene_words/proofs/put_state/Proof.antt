@@ -13,4 +13,4 @@ put_state_spec =
     (λ c. search rules)
     (λ c. (simp c.before.before.before.before.before.enum_told-in-Full-1.requires.1 c.before.before.put-in-Full.ensures, omega (arith, c.before.before.put-in-Full.ensures.next_offset)))
     (λ c. search rules)
-    (λ c. (simp c.before.before.before.before.enum_told-in-Ring-1.requires.1 c.before.before.put_ring.ensures.wrote, c.before.before.put_ring.ensures.upper_bound)))
+    (λ c. (simp c.before.before.before.before.enum_told-in-Ring-1.requires.1 c.before.before.put_ring.ensures.0, c.before.before.put_ring.ensures.1)))

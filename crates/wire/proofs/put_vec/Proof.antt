@@ -15,4 +15,4 @@ put_vec_spec =
     let q = p.before.before.before.before in
     let f = q.before.before.before.before in
     let a = f.before.before.before.args in
-    three a.out-1.now (float_bytes a.v.x) (float_bytes a.v.y) (float_bytes a.v.z) a.at 8 16 f.put_float.ensures q.put_float-2.ensures p.put_float-3.ensures (eight _) (eight _) (omega arith)))
+    three a.out.now (float_bytes a.v.x) (float_bytes a.v.y) (float_bytes a.v.z) a.at 8 16 f.put_float.ensures q.put_float-2.ensures p.put_float-3.ensures (eight _) (eight _) (omega arith)))

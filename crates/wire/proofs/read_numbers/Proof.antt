@@ -29,6 +29,6 @@ read_numbers_spec =
     (λ c. search rules)
     (λ c. search rules)
     (λ c. search rules)
-    (λ c. fill_on_one c.before.before.loop-i.invariant refl (simp c.u16_at.ensures.value) (omega arith))
+    (λ c. fill_on_one c.before.before.loop-i.invariant refl (simp c.u16_at.ensures.0) (omega arith))
     (λ c. search rules)
     (λ c. fill_all_one c.before.loop-i.invariant (omega arith) refl))

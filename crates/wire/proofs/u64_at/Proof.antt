@@ -9,4 +9,4 @@ u64_at_spec =
     tie.close
     (tie.spec
     (λ c κs. search rules) (λ c. search rules) (λ c κs. search rules) (λ c. search rules) (λ c. search rules)
-    (λ c. simp (c.before.u32_at.ensures.value, c.u32_at-2.ensures.value)))
+    (λ c. simp (c.before.u32_at.ensures.0, c.u32_at-2.ensures.0)))

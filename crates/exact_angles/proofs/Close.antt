@@ -28,6 +28,9 @@ still e = omega arith
 still' : (e : ℕ) → 0 + e ≤ e
 still' e = omega arith
 
+no_times : (n d : ℕ) → 0 * n ≤ 0 * d
+no_times n d = omega arith
+
 pub close_at : (x : Float) (a : Shut) (c e : ℕ) → Closing a c → Plus x → Le (magnitude x) (a.low 48) e → Le (a.high 48) (magnitude x) e → Close x a e
 close_at x a c e h p u v = record {
   plus = p;
@@ -100,8 +103,8 @@ module _ (t : Float) (P Q : ℕ) (q : 0 < Q) (l : P ≤ Q) (n : Near t (P over Q
       let e : Same (nest Y 0 48) (partial Y 48) = nest_all Y Y_pos 47 in
       let m : Near (A.acute t) (F ⊠ partial Y 48) 81 =
       near_move (A.acute t) (F ⊠ nest Y 0 48) (F ⊠ partial Y 48) 81 0 (mul-pos Y_pos sum_pos) r
-      (mul_le (nest Y 0 48) (partial Y 48) F 0 0 (same_le (nest Y 0 48) (partial Y 48) e) (omega arith))
-      (mul_le (partial Y 48) (nest Y 0 48) F 0 0 (same_ge (nest Y 0 48) (partial Y 48) e) (omega arith)) in
+      (mul_le (nest Y 0 48) (partial Y 48) F 0 0 (same_le (nest Y 0 48) (partial Y 48) e) (no_times F.num F.den))
+      (mul_le (partial Y 48) (nest Y 0 48) F 0 0 (same_ge (nest Y 0 48) (partial Y 48) e) (no_times F.num F.den)) in
       let g : Le (F ⊠ (partial Y 48 ⊞ term Y 48)) (F ⊠ partial Y 48) 16 = gap (P * Q) (P * P + Q * Q) (partial Y 48).num (partial Y 48).den (term Y 48).num (term Y 48).den (means P Q l) (term_small Y Y_half 48) in
       close_at (A.acute t) (slope P Q) 1 97 (slope_closing P Q q l) m.plus
       (le_grow (magnitude (A.acute t)) (F ⊠ partial Y 48) 81 97 (lit≤ tt) m.above)

@@ -7,5 +7,5 @@ unfolding span_of
 span_spec =
     tie.close
     (tie.spec (λ c κs. tt) (λ c κs. tt)
-    (λ c. simp (← c.before.before.dot_prod.ensures, ← c.before.dot_prod-2.ensures, c.if-dot_prod.true))
-    (λ c. simp (← c.before.before.dot_prod.ensures, ← c.before.dot_prod-2.ensures, c.if-dot_prod.false)))
+    (λ c. simp (← c.before.before.before.dot_prod.ensures, ← c.before.dot_prod-2.ensures, c.if-dot_prod.true))
+    (λ c. simp (← c.before.before.before.dot_prod.ensures, ← c.before.dot_prod-2.ensures, c.if-dot_prod.false)))

@@ -9,5 +9,5 @@ arc_fault_spec =
     (tie.spec
     (λ c κs. tt) (λ c κs. tt) (λ c κs. tt) (λ c κs. tt)
     (λ c κs. tt)
-    (λ c. let e = c.before.before in
-    simp (c.first.ensures, c.before.vector_fault.ensures, e.first-ends.ensures, e.before.fault-2.ensures, e.before.before.fault.ensures)))
+    (λ c. let e = c.before.before.before in
+    simp (c.first.ensures, c.before.vector_fault.ensures, e.first-ends.ensures, e.before.fault-2.ensures, e.before.before.before.fault.ensures)))

@@ -6,4 +6,4 @@ clear_arc_spec =
     tie.close
     (tie.spec
     (λ c κs. tt) (λ c κs. tt) (λ c κs. tt)
-    (λ c. simp (c.clear-3.ensures, c.before.clear-2.ensures, c.before.before.clear.ensures)))
+    (λ c. simp (c.clear-3.ensures, c.before.before.clear-2.ensures, c.before.before.before.before.clear.ensures)))

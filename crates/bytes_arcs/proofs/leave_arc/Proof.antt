@@ -13,8 +13,8 @@ leave_arc_spec =
     no_room a.number (vectors a.a) a.out.now c.before.if-out-lt72.true c.refusal.ensures)
     (λ c κs. search rules) (λ c κs. search rules) (λ c κs. search rules) (λ c. search rules)
     (λ c. let h = c.before.before in
-    let g = h.before.before.before.before in
-    let f = g.before.before.before.before in
-    let a = f.before.before.before.before.args in
-    room a.number (vectors a.a) a.out.now f.before.before.if-out-lt72.false
+    let g = h.before.before.before.before.before in
+    let f = g.before.before.before.before.before in
+    let a = f.before.before.before.before.before.args in
+    room a.number (vectors a.a) a.out.now f.before.before.before.if-out-lt72.false
     (three_written a.out.now a.a.start a.a.end a.a.normal f.put_vec.ensures g.put_vec-2.ensures h.put_vec-3.ensures)))

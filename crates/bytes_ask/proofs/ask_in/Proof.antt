@@ -10,7 +10,7 @@ ask_in_spec =
     (tie.spec
     (λ c κs. search rules) (λ c κs. search rules) (λ c κs. search rules) (λ c. search rules) (λ c. search rules)
     (λ c. search rules) (λ c κs. search rules) (λ c. search rules) (λ c. search rules)
-    (λ c. let header = c.before.before.before.before in
+    (λ c. let header = c.before.before in
     let read = header.before.before.before.before.before in
     let from = read.before.before.before in
     let start = from.before.before.before.before.before in

@@ -10,7 +10,7 @@ start_of c = c.before.before.before.before.before.before.before.before.before
 
 leave-loop-requires : tie.Need-leave_loop-requires
 leave-loop-requires c κs =
-    let told = c.before.before.before.before.before in
+    let told = c.before.before in
     let built = told.before.before.before.before.before.before.before.before in
     let start = start_of built in
     let a = start.args in
@@ -29,7 +29,7 @@ returns c =
 returns-2 : tie.Need-returns-in-Loop
 returns-2 c =
     let left = c.before.before in
-    let told = left.before.before.before.before.before.before in
+    let told = left.before.before.before in
     let built = told.before.before.before.before.before.before.before.before in
     let start = start_of built in
     let a = start.args in

@@ -7,7 +7,7 @@ use Rattle.bytes_build.proofs.build_in.Tie as tie
 returns : tie.Need-returns
 returns c =
     let built = c.before.before.before.before.before.before.before.before in
-    let read = built.before.before.before.before.before.before.before.before in
+    let read = built.before.before.before.before.before.before.before in
     let start = read.before.before.before.before.before.before.before.before in
     let a = start.args in
     read_list a.mode a.list.now a.out.now _ read.read_floats.ensures start.requires.1 built.build_from.ensures

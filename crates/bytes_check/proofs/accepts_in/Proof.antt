@@ -10,7 +10,7 @@ accepts_in_spec =
     (tie.spec
     (λ c κs. search rules) (λ c κs. search rules) (λ c κs. search rules) (λ c κs. search rules) (λ c. search rules)
     (λ c. search rules) (λ c. search rules) (λ c κs. search rules) (λ c κs. search rules) (λ c. search rules) (λ c. search rules)
-    (λ c. let header = c.before.before.before.before.before in
+    (λ c. let header = c.before.before.before in
     let numbers = header.before.before.before in
     let positions = numbers.before.before.before.before in
     let from = positions.before.before in

@@ -11,7 +11,7 @@ cut_in_spec =
     (λ c κs. search rules) (λ c κs. search rules) (λ c κs. search rules) (λ c. search rules) (λ c. search rules)
     (λ c. search rules) (λ c κs. search rules) (λ c. search rules) (λ c. search rules)
     (λ c. let cut = c.before.before in
-    let header = cut.before.before.before.before in
+    let header = cut.before.before.before in
     let read = header.before.before.before in
     let from = read.before.before in
     let start = from.before.before.before.before in

@@ -9,6 +9,6 @@ cut_into_spec =
     tie.close
     (tie.spec
     (λ c κs. search rules)
-    (λ c κs. (counted _ _ _ _ c.before.before.before.before.triangulate-c.ensures, omega (arith, c.before.before.before.before.before.before.before.before.before.before.requires)))
+    (λ c κs. (counted _ _ _ _ c.before.before.before.triangulate-c.ensures, omega (arith, c.before.before.before.before.before.before.before.before.before.requires)))
     (λ c. search rules) (λ c. search rules)
-    (λ c. slid _ c.before.before.before.before.before.before.before.triangulate-c.ensures c.before.before.leave_cut.ensures))
+    (λ c. slid _ c.before.before.before.before.before.before.triangulate-c.ensures c.before.before.leave_cut.ensures))

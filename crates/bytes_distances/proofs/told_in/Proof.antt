@@ -6,7 +6,7 @@ use Rattle.bytes_distances.proofs.told_in.Tie as tie
 
 returns : tie.Need-returns
 returns c =
-    let header = c.before.before.before.before in
+    let header = c.before.before in
     let read = header.before.before.before.before.before in
     let from = read.before.before.before in
     let start = from.before.before.before.before.before in

@@ -13,6 +13,6 @@ put_cap_spec =
     (λ c κs. search rules) (λ c κs. search rules) (λ c. search rules)
     (λ c. let radius = c.before.before in
     let centre = radius.before.before.before.before in
-    let a = centre.before.before.before.args in
+    let a = centre.before.before.before.before.args in
     two a.out.now (vec_bytes a.c.centre) (float_bytes a.c.radius.0) 8 32 centre.put_vec.ensures radius.put_float.ensures
     (omega (arith, width a.c.centre))))

@@ -17,7 +17,7 @@ put_header_spec =
     (λ c κs. search rules) (λ c. search rules)
     (λ c. let insides = c.before.before in
     let cap = insides.before.before.before.before in
-    let front = cap.before.before.before.before in
+    let front = cap.before.before.before.before.before in
     let a = front.before.before.before.before.before.args in
     let bytes = front_bytes a.h.count (state_code a.h.state) (marks_of a.h) in
     three a.out.now bytes (cap_bytes a.h.cap) (insides_bytes a.h.insides) 0 8 40

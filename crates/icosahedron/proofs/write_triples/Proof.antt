@@ -27,6 +27,6 @@ write_triples_spec =
     (λ c. search rules)
     (λ c. search rules)
     (λ c. search rules)
-    (λ c. fill_on_one c.before.loop-k.invariant refl refl (omega arith))
+    (λ c. fill_on_one c.before.before.before.loop-k.invariant refl refl (omega arith))
     (λ c. search rules)
     (λ c. copy_end 0 triples _ _ _ c.before.loop-k.invariant (omega arith)))

@@ -23,7 +23,7 @@ returns c =
 
 write-ring-requires : tie.Need-write_ring-insides-requires
 write-ring-requires c κs =
-    let turned = c.before.before.before.before.before in
+    let turned = c.before.before.before in
     let prepared = prepared-of turned.before.before in
     ready _ _ prepared.prepare-sum.ensures (start_of prepared).pre turned.is_clockwise-reversed.ensures
 
@@ -31,7 +31,7 @@ returns-2 : tie.Need-returns
 returns-2 c =
     let capped = c.before in
     let written = capped.before.before.before.before.before.before.before in
-    let turned = written.before.before.before.before.before.before in
+    let turned = written.before.before.before.before in
     let chosen = turned.before in
     let asked = chosen.before in
     ring_made_lem

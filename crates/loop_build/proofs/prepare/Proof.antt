@@ -9,8 +9,8 @@ unfolding reversal
 returns c =
     let classed = c.before.before in
     let turned = classed.before.before in
-    let summed = turned.before.before in
-    let edged = summed.before.before.before.before in
+    let summed = turned.before in
+    let edged = summed.before.before.before in
     simp (classed.write_classes.ensures, turned.is_clockwise.ensures, summed.turn_sum-sum.ensures, edged.write_edge_normals.ensures)
 
 pub prepare_spec : {M : Type 1} → statement M

@@ -25,17 +25,17 @@ copy-classes-requires c κs =
 
 slice-aggregate-insides-of : tie.Need-slice_bounds-insides_of-end-2
 slice-aggregate-insides-of c =
-    let cornered = corners-of (normals-of c.before.before.before) in
+    let cornered = corners-of (normals-of c.before.before) in
     sym (front_size (start_of cornered).pre _ cornered.write_corners.ensures)
 
 insides-of-requires : tie.Need-insides_of-requires
 insides-of-requires c κs =
-    let cornered = corners-of (normals-of c.before.before.before) in
+    let cornered = corners-of (normals-of c.before.before) in
     is_ring (start_of cornered).pre _ cornered.write_corners.ensures
 
 returns : tie.Need-returns
 returns c =
-    let classed = c.before.before.before.before in
+    let classed = c.before.before.before in
     let normalled = normals-of classed in
     let cornered = corners-of normalled in
     all_written

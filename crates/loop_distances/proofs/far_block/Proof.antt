@@ -8,14 +8,14 @@ use Rattle.loop_distances.proofs.far_block.Tie as tie
 
 far-listed-requires : tie.Need-far_listed-requires
 far-listed-requires c κs =
-    let settle = c.before.before in
+    let settle = c.before.before.before in
     let passed = settle.settle-s.ensures in
     let pre = settle.before.before.before.before.requires in
     (pre.3, passed_below passed pre.0 pre.2, omega (arith, passed_few passed, passed.few, pre.1))
 
 returns : tie.Need-returns
 returns c =
-    let settle = c.before.before.before in
+    let settle = c.before.before.before.before in
     let pre = settle.before.before.before.before.requires in
     passed_least settle.settle-s.ensures pre.4 pre.0 pre.2 pre.5 c.far_listed.ensures
 

@@ -15,7 +15,7 @@ write-feet-requires : tie.Need-write_feet-requires
 write-feet-requires c κs =
     let units = c.before.before.before.before in
     let products = units.before.before.before.before.before in
-    let start = products.before.before.before.before.before.before.before.before in
+    let start = products.before.before.before.before.before.before in
     let pre = start.requires in
     (indexed start.args.normals.now start.args.n start.args.listed.now pre.1 pre.0.normals, search rules, search rules)
 
@@ -25,15 +25,15 @@ far-each-requires c κs =
     let products = feet.before.before.before.before.before in
     let units = products.before.before.before.before.before in
     let across = units.before.before.before.before.before in
-    let pre = across.before.before.before.before.before.before.before.before.requires in
+    let pre = across.before.before.before.requires in
     (pre.0, pre.1, pre.2, search rules, search rules)
 
 returns : tie.Need-returns
 returns c =
-    let feet = c.before.before.before.before.before in
-    let products = feet.before.before.before.before.before in
-    let units = products.before.before.before.before.before in
-    let across = units.before.before.before.before.before in
+    let feet = c.before.before.before in
+    let products = feet.before.before.before.before in
+    let units = products.before.before.before.before in
+    let across = units.before.before.before.before in
     let a = across.before.before.before.before.before.before.before.before.args in
     c.far_each.ensures
     ∙ each_by a.positions.now a.normals.now a.n a.p a.listed.now across.write_across.ensures units.write_units.ensures products.write_feet.ensures feet.write_units-2.ensures a.known

@@ -9,9 +9,9 @@ far_with_spec =
     tie.close
     (tie.spec
     (λ c κs. tt) (λ c κs. tt)
-    (λ c. let h = simp c.before.before.equals.ensures at c.before.if-equals.true in
+    (λ c. let h = simp c.before.before.before.equals.ensures at c.before.before.if-equals.true in
     simp (h) c.new.ensures)
     (λ c κs. tt) (λ c κs. tt)
     (λ c. let foot = c.before in
-    let h = simp foot.before.before.equals.ensures at foot.before.if-equals.false in
+    let h = simp foot.before.before.before.equals.ensures at foot.before.before.if-equals.false in
     simp (h, c.by_foot.ensures, foot.foot_by.ensures)))

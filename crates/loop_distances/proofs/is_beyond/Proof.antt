@@ -9,4 +9,4 @@ is_beyond_spec =
     tie.close
     (tie.spec
     (λ c κs. tt) (λ c κs. tt) (λ c κs. tt)
-    (λ c. simp (c.dot_prod-2.ensures, c.before.dot_prod.ensures, c.before.before.stable_cross_prod-r.ensures)))
+    (λ c. simp (c.dot_prod-2.ensures, c.before.before.dot_prod.ensures, c.before.before.before.before.stable_cross_prod-r.ensures)))

@@ -11,5 +11,5 @@ is_settled_spec =
     simp (h))
     (λ c κs. tt)
     (λ c. let side = c.before.before.before in
-    let h = simp side.before.before.is_surely_off.ensures at side.before.if-is_surely_off.false in
+    let h = simp side.before.before.before.before.is_surely_off.ensures at side.before.before.before.if-is_surely_off.false in
     simp (h, side.new-side.ensures)))

@@ -19,7 +19,7 @@ is_surely_off_spec =
     (tie.spec
     (λ c κs. tt) (λ c κs. tt) (λ c κs. tt)
     (λ c. let tame = c.before in
-    let test = tame.before in
+    let test = tame.before.before in
     let h = simp test.before.is_beyond.ensures at test.if-is_beyond.true in
     simp (h, c.is_upright.ensures, tame.is_tame.ensures) (and-true _))
     (λ c. let h = simp c.before.is_beyond.ensures at c.if-is_beyond.false in

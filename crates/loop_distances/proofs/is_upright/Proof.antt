@@ -7,6 +7,6 @@ is_upright_spec =
     tie.close
     (tie.spec
     (λ c κs. tt) (λ c κs. tt) (λ c κs. tt) (λ c κs. tt) (λ c κs. tt)
-    (λ c. let end = c.before in
-    let start = end.before.before in
+    (λ c. let end = c.before.before in
+    let start = end.before.before.before.before in
     simp (c.squared_norm.ensures, end.abs-end.ensures, end.before.dot_prod-2.ensures, start.abs-start.ensures, start.before.dot_prod.ensures)))

@@ -7,4 +7,4 @@ nearer_end_spec =
     tie.close
     (tie.spec
     (λ c κs. tt) (λ c κs. tt) (λ c κs. tt)
-    (λ c. simp (c.least.ensures, c.before.new-2.ensures, c.before.before.new.ensures)))
+    (λ c. simp (c.least.ensures, c.before.new-2.ensures, c.before.before.before.new.ensures)))

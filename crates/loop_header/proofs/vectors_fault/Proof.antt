@@ -10,4 +10,4 @@ vectors_fault_spec =
     (tie.spec
     (λ c κs. search rules) (λ c κs. search rules) (λ c κs. search rules) (λ c κs. search rules)
     (λ c κs. search rules)
-    (λ c. simp (c.first-2.ensures, c.before.first.ensures, c.before.before.insides_fault.ensures, c.before.before.before.cap_fault.ensures, c.before.before.before.before.vectors_fault-f.ensures)))
+    (λ c. simp (c.first-2.ensures, c.before.first.ensures, c.before.before.insides_fault.ensures, c.before.before.before.cap_fault.ensures, c.before.before.before.before.before.vectors_fault-f.ensures)))

@@ -14,20 +14,20 @@ decreases-loop ps ids₀ classes₀ triangles m₀ t₀ ids classes m t = m
 
 -- From where `is_named` is done back to where `index_at` is.
 abbrev index_of : tie.After-is_named invariant-loop decreases-loop → tie.After-index_at-i invariant-loop decreases-loop
-index_of c = c.before.before.before
+index_of c = c.before
 
 loop-holds : tie.Need-loop-m-init invariant-loop decreases-loop
 loop-holds c = let given = c.before.before.before.before.requires in begin given.0 given.1 given.2
 
 index-at-requires : tie.Need-index_at-i-requires invariant-loop decreases-loop
 index-at-requires c κs =
-    let following = c.before.before.loop-m.invariant in
+    let following = c.before.loop-m.invariant in
     (following.held.lent.few, omega (arith, following.size, following.count))
 
 is-named-requires : tie.Need-is_named-requires invariant-loop decreases-loop
 is-named-requires c κs =
-    let indexed = c.before.before in
-    let following = indexed.before.before.before.loop-m.invariant in
+    let indexed = c in
+    let following = indexed.before.before.loop-m.invariant in
     (following.held.lent, at_most_lem following indexed.index_at-i.ensures, omega (arith, following.size, following.count))
 
 returns : tie.Need-returns-then-not-is_named invariant-loop decreases-loop
@@ -61,12 +61,12 @@ loop-again c =
 
 is-last-requires : tie.Need-is_last-requires invariant-loop decreases-loop
 is-last-requires c κs =
-    let following = c.before.before.loop-m.invariant in
+    let following = c.before.loop-m.invariant in
     let held = following.held in
     (omega (arith, held.sized, held.least), omega (arith, following.size, following.count, held.least))
 
 returns-2 : tie.Need-returns invariant-loop decreases-loop
-returns-2 c = finish c.before.before.before.loop-m.invariant (search rules) c.is_last.ensures
+returns-2 c = finish c.before.before.loop-m.invariant (search rules) c.is_last.ensures
 
 pub follow_spec : {M : Type 1} → statement M
 follow_spec =

@@ -23,7 +23,7 @@ head_of c = c.before.before.before.before.before
 
 -- From where `cut_apart` is called back to where an ear is found, and `put_ear` is yet to be called.
 abbrev ear-of : tie.After-cut_apart-arg-in-loop-m-2-1 invariant-loop decreases-loop → tie.Else-i-m invariant-loop decreases-loop
-ear-of c = c.before.before.before.before.before.before.before.before
+ear-of c = c.before.before.before.before.before.before.before
 
 list-apart-requires : tie.Need-list_apart-k-requires invariant-loop decreases-loop
 list-apart-requires c κs = let given = (start_of c).pre in (given.0.below, given.2, given.0.few)
@@ -36,17 +36,17 @@ loop-holds c =
     begin given.0 given.1 given.3 (omega (arith, given.2, list.auto.apart)) list.ensures
 
 lowest-ear-requires : tie.Need-lowest_ear-i-requires invariant-loop decreases-loop
-lowest-ear-requires c κs = let going = c.before.before.before.before.loop-m.invariant in (going.held.lent, going.listing.listed)
+lowest-ear-requires c κs = let going = c.before.loop-m.invariant in (going.held.lent, going.listing.listed)
 
 returns : tie.Need-returns-then-i-m invariant-loop decreases-loop
 returns c =
     let sought = c.before in
-    let inside = sought.before.before.before.before in
+    let inside = sought.before in
     stuck inside.before.loop-m.invariant inside.loop-m-test.true sought.lowest_ear-i.ensures c.if-i-m.true
 
 put-ear-requires : tie.Need-put_ear-requires invariant-loop decreases-loop
 put-ear-requires c κs =
-    let ear = c.before.before in
+    let ear = c.before in
     let going = (head_of ear.before).loop.inv in
     let below = found going.held ear.before.lowest_ear-i.ensures ear.if-i-m.false in
     omega arith
@@ -84,7 +84,7 @@ loop-again c =
 returns-2 : tie.Need-returns invariant-loop decreases-loop
 returns-2 c =
     let at-put = c.before.before in
-    finish at-put.before.before.before.before.loop-m.invariant (search rules) at-put.put_ear-2.ensures
+    finish at-put.before.before.before.loop-m.invariant (search rules) at-put.put_ear-2.ensures
 
 pub cut_all_spec : {M : Type 1} → statement M
 cut_all_spec =
@@ -96,7 +96,7 @@ cut_all_spec =
     (λ c. search rules)
     (λ c. omega arith)
     (λ c. search rules)
-    (λ c. sym c.before.before.before.before.loop-m.invariant.listing.sized)
+    (λ c. sym c.before.loop-m.invariant.listing.sized)
     lowest-ear-requires
     (λ c. search rules)
     (λ c. search rules)

@@ -26,14 +26,14 @@ cut-all-requires c κs =
 
 copy-numbers-requires : tie.Need-copy_numbers-requires
 copy-numbers-requires c κs =
-    let cut = cut_of c.before.before.before in
+    let cut = cut_of c.before.before in
     let given = (start_of (whole_of cut)).pre in
     omega (arith, cut.Cut-all.kept.1.1.1.1.0, given.2, given.3)
 
 returns : tie.Need-returns-then-cut_all
 returns c =
     let copied = c.before.before in
-    let tested = copied.before.before.before in
+    let tested = copied.before.before in
     let cut = cut_of tested.before in
     let whole = whole_of cut in
     let given = (start_of whole).pre in

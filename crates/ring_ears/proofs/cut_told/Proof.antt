@@ -10,7 +10,7 @@ use Rattle.ring_ears.proofs.cut_told.Tie as tie
 
 reclassify-both-requires : tie.Need-reclassify_both-requires
 reclassify-both-requires c κs =
-    let removed = c.before.before.before.before in
+    let removed = c.before.before.before in
     let given = removed.before.before.before.before.before.requires in
     let remove = removed.remove_at in
     rw (taken _ _ given.1 _ remove.auto.ids remove.ensures) (lent_without given.0 given.1)
@@ -18,7 +18,7 @@ reclassify-both-requires c κs =
 returns : tie.Need-returns
 returns c =
     let classed = c.before.before in
-    let removed = classed.before.before.before.before.before in
+    let removed = classed.before.before.before.before in
     let given = removed.before.before.before.before.before.requires in
     let both = classed.reclassify_both in
     let remove = removed.remove_at in

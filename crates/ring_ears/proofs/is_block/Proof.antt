@@ -11,4 +11,4 @@ is_block_spec =
     (λ c κs. search rules)
     (λ c. simp (← c.before.is_convex.ensures, c.if-is_convex.true))
     (λ c κs. search rules) (λ c κs. search rules)
-    (λ c. rw (c.inside_or_edge.ensures, c.before.corner_at.ensures, ← c.before.before.before.is_convex.ensures, c.before.before.if-is_convex.false)))
+    (λ c. rw (c.inside_or_edge.ensures, c.before.before.before.before.corner_at.ensures, ← c.before.before.before.before.before.before.is_convex.ensures, c.before.before.before.before.before.if-is_convex.false)))

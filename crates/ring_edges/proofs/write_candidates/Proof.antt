@@ -10,5 +10,5 @@ write_candidates_spec =
     (tie.spec
     (λ c κs. search rules) (λ c κs. search rules) (λ c. search rules) (λ c. search rules)
     (λ c. let units = c.before.before in
-    let products = units.before.before.before.before.before.write_products.ensures in
+    let products = units.before.before.before.before.write_products.ensures in
     (products, simp (units.write_units.ensures, products) (units_of _ _ _ _))))

@@ -24,7 +24,7 @@ inside_of c = c.before.before.before.before
 
 -- From where `is_both` is done back to where an ear is found.
 abbrev ear-of : tie.After-is_both invariant-loop decreases-loop → tie.Else-i-m invariant-loop decreases-loop
-ear-of c = c.before.before.before.before
+ear-of c = c.before.before.before
 
 list-apart-requires : tie.Need-list_apart-count-requires invariant-loop decreases-loop
 list-apart-requires c κs = let given = (start_of c).pre in (given.0.below, given.2, given.0.few)
@@ -37,7 +37,7 @@ loop-holds c =
     begin given.0 given.1 (omega (arith, given.2, list.auto.apart)) list.ensures
 
 lowest-ear-requires : tie.Need-lowest_ear-i-requires invariant-loop decreases-loop
-lowest-ear-requires c κs = let seeking = c.before.before.before.before.loop-m.invariant in (seeking.held.lent, seeking.listing.listed)
+lowest-ear-requires c κs = let seeking = c.before.loop-m.invariant in (seeking.held.lent, seeking.listing.listed)
 
 returns : tie.Need-returns-then-i-m invariant-loop decreases-loop
 returns c =
@@ -47,7 +47,7 @@ returns c =
 
 mean-at-requires : tie.Need-mean_at-requires invariant-loop decreases-loop
 mean-at-requires c κs =
-    let ear = c.before in
+    let ear = c in
     let sought = ear.before in
     let held = (inside_of sought).before.loop.inv.held in
     (indexed held.lent, rw held.sized (found held sought.lowest_ear-i.ensures ear.if-i-m.false), held.lent.few)
@@ -91,12 +91,12 @@ loop-again c =
     done.ensures.1 done.ensures.2 done.auto.apart
 
 mean-at-requires-2 : tie.Need-mean_at-requires-2 invariant-loop decreases-loop
-mean-at-requires-2 c κs = let held = c.before.before.loop-m.invariant.held in (indexed held.lent, omega arith, held.lent.few)
+mean-at-requires-2 c κs = let held = c.before.loop-m.invariant.held in (indexed held.lent, omega arith, held.lent.few)
 
 returns-3 : tie.Need-returns invariant-loop decreases-loop
 returns-3 c =
     let found-mean = c.before in
-    finish found-mean.before.before.before.loop-m.invariant (search rules) (rw found-mean.mean_at-2.ensures at c.with_mean.ensures)
+    finish found-mean.before.before.loop-m.invariant (search rules) (rw found-mean.mean_at-2.ensures at c.with_mean.ensures)
 
 pub find_means_spec : {M : Type 1} → statement M
 find_means_spec =
@@ -108,7 +108,7 @@ find_means_spec =
     (λ c. search rules)
     (λ c. omega arith)
     (λ c. search rules)
-    (λ c. sym c.before.before.before.before.loop-m.invariant.listing.sized)
+    (λ c. sym c.before.loop-m.invariant.listing.sized)
     lowest-ear-requires
     (λ c. search rules)
     (λ c. search rules)

@@ -7,4 +7,4 @@ mean_at_spec =
     tie.close
     (tie.spec
     (λ c κs. search rules) (λ c κs. search rules)
-    (λ c. simp (c.triangle_mean.ensures, c.before.triangle_at-t.ensures)))
+    (λ c. simp (c.triangle_mean.ensures, c.before.before.before.before.triangle_at-t.ensures)))

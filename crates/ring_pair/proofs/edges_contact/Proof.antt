@@ -17,7 +17,7 @@ decreases-loop mode a others theirs m from to candidates touched₀ j₀ touched
 
 candidate-requires : tie.Need-candidate-c-requires invariant-loop decreases-loop
 candidate-requires c κs =
-    let head = c.before in
+    let head = c.before.before in
     (head.loop-j.invariant.1, omega arith, omega arith, head.before.before.before.before.requires.5)
 
 returns : tie.Need-returns-then-is_crossed invariant-loop decreases-loop
@@ -26,7 +26,7 @@ returns c =
     let graded = asked.before in
     let related = graded.before in
     let grade = graded.grade-k in
-    grade_hit related.before.before.before.loop-j.invariant.0 grade.result (simp (grade.ensures, related.relation_at.ensures)) (omega arith)
+    grade_hit related.before.before.before.before.loop-j.invariant.0 grade.result (simp (grade.ensures, related.relation_at.ensures)) (omega arith)
     (sym asked.is_crossed.ensures ∙ c.if-is_crossed.true)
 
 loop-again : tie.Need-loop-j-preserved invariant-loop decreases-loop
@@ -35,7 +35,7 @@ loop-again c =
     let asked = passed.before in
     let graded = asked.before in
     let related = graded.before in
-    let inv = related.before.before.before.loop-j.invariant in
+    let inv = related.before.before.before.before.loop-j.invariant in
     let grade = graded.grade-k in (
       grade_on inv.0 grade.result (simp (grade.ensures, related.relation_at.ensures)) (omega arith)
           (sym asked.is_crossed.ensures ∙ passed.if-is_crossed.false) (simp c.is_touched-touched.ensures),

@@ -18,13 +18,13 @@ decreases-loop mode arc positions normals n from to candidates s₀ i₀ s i = t
 
 candidate-requires : tie.Need-candidate-c-requires invariant-loop decreases-loop
 candidate-requires c κs =
-    let head = c.before in
+    let head = c.before.before in
     (omega (arith, head.loop-i.invariant.1), omega arith, omega arith, head.before.before.before.before.requires.5)
 
 loop-again : tie.Need-loop-i-preserved invariant-loop decreases-loop
 loop-again c =
     let met = c.before in
-    let inv = met.before.before.before.loop-i.invariant in
+    let inv = met.before.before.before.before.loop-i.invariant in
     (iterate_on inv.0 (simp (c.passed-s.ensures, met.point_at.ensures)) (omega arith), omega (arith, inv.1))
 
 pub pass_edges_spec : {M : Type 1} → statement M

@@ -16,7 +16,7 @@ cut-told-requires c κs = let given = c.before.before.before.before.before.befor
 
 list-apart-requires : tie.Need-list_apart-requires
 list-apart-requires c κs =
-    let cut = c.before.before.before.before.before.before.before.before in
+    let cut = c.before.before.before.before.before.before in
     let given = (start_of cut).pre in
     let told = cut.cut_told in
     let lent = cut_lent given.0 given.1 told.ensures.0 told.auto.ids told.auto.classes in
@@ -25,7 +25,7 @@ list-apart-requires c κs =
 returns : tie.Need-returns-then-cut_told
 returns c =
     let listed = c.before.before in
-    let cut = listed.before.before.before.before.before.before.before.before.before in
+    let cut = listed.before.before.before.before.before.before.before in
     let given = (start_of cut).pre in
     let told = cut.cut_told in
     let list = list_afresh given.0 given.1 told.ensures.0 told.auto.ids told.auto.classes listed.list_apart.ensures in

@@ -9,5 +9,5 @@ far_normal_spec =
     tie.close
     (tie.spec
     (λ c κs. search rules) (λ c κs. search rules) (λ c κs. search rules) (λ c κs. search rules)
-    (λ c. let h = simp (c.before.before.is_right.ensures, c.before.before.before.side_of.ensures) at c.before.if-is_right.true in simp (h, c.cross_prod.ensures))
-    (λ c. let h = simp (c.before.before.is_right.ensures, c.before.before.before.side_of.ensures) at c.before.if-is_right.false in simp (h, c.cross_prod-else-is_right.ensures)))
+    (λ c. let h = simp (c.before.before.before.before.is_right.ensures, c.before.before.before.before.before.side_of.ensures) at c.before.before.before.if-is_right.true in simp (h, c.cross_prod.ensures))
+    (λ c. let h = simp (c.before.before.before.before.is_right.ensures, c.before.before.before.before.before.side_of.ensures) at c.before.before.before.if-is_right.false in simp (h, c.cross_prod-else-is_right.ensures)))

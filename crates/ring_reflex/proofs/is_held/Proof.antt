@@ -13,4 +13,4 @@ is_held_spec =
     (λ c κs. search rules) (λ c κs. search rules)
     (λ c. let h = simp (c.before.is_surely_right.ensures, c.before.before.corner_at-p.ensures, c.before.before.before.before.before.requires.0) at c.if-is_surely_right.true in sym (beyond _ _ h))
     (λ c κs. search rules)
-    (λ c. simp (c.inside_or_edge.ensures, c.before.before.before.corner_at-p.ensures)))
+    (λ c. simp (c.inside_or_edge.ensures, c.before.before.before.before.before.before.corner_at-p.ensures)))

@@ -23,12 +23,12 @@ turn_to_normals_spec =
     invariant-loop decreases-loop
     (λ c. let p = c.before.before.requires.2 in
     (fill (λ j. refl) (omega (arith, products_size _ _ p)), products_size _ _ p, kept p))
-    (λ c κs. let v = c.before.before.loop-i.invariant in
+    (λ c κs. let v = c.before.loop-i.invariant in
     (omega arith, omega arith, omega arith, omega (arith, v.0.size, v.1), v.2.held _ (omega arith) (omega arith)))
     (λ c κs. search rules)
     (λ c. search rules)
     (λ c. search rules)
-    (λ c. let v = c.before.before.before.before.before.before.before.loop-i.invariant in
+    (λ c. let v = c.before.before.before.before.before.before.loop-i.invariant in
     let e = c.before.before.put.ensures in
     (fill_on v.0 (simp (e, c.before.before.before.before.edge_normal-normal.ensures)) (omega arith), v.1, kept_on v.2 _ e))
     (λ c. search rules)

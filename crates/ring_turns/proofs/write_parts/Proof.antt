@@ -9,4 +9,4 @@ write_parts_spec =
     (tie.spec
     (λ c κs. search rules) (λ c κs. search rules) (λ c. search rules) (λ c. search rules)
     (λ c. let u = c.before.before in
-    simp (u.write_acutes.ensures, u.before.before.before.before.before.write_proportions.ensures) (acutes_of _ _ _ _)))
+    simp (u.write_acutes.ensures, u.before.before.before.before.write_proportions.ensures) (acutes_of _ _ _ _)))

@@ -10,11 +10,11 @@ returns-line : tie.Need-returns
 unfolding area_line
 returns-line c =
     let at_end = c.before.before in
-    let at-triangles = at_end.before.before.before.before.before in
+    let at-triangles = at_end.before.before.before.before.before.before in
     let at-marks = at-triangles.before.before.before.before in
     let at_count = at-marks.before.before.before.before in
     let at-space = at_count.before.before.before.before in
-    let at-number = at-space.before.before.before.before.before in
+    let at-number = at-space.before.before.before.before.before.before in
     let at-word = at-number.before.before.before.before in
     let word = at-word.put-a.ensures in
     let number = at-number.put_number-b.ensures in

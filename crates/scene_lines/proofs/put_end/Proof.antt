@@ -10,7 +10,7 @@ returns-line : tie.Need-returns
 unfolding end_line
 returns-line c =
     let at_end = c.before.before in
-    let at_records = at_end.before.before.before.before.before in
+    let at_records = at_end.before.before.before.before.before.before in
     let at-word = at_records.before.before.before.before in
     let word = at-word.put-a.ensures in
     let records = at_records.put_number-b.ensures in

@@ -10,9 +10,9 @@ returns-line : tie.Need-returns
 unfolding far_line
 returns-line c =
     let at_end = c.before.before in
-    let at_bits = at_end.before.before.before.before.before in
+    let at_bits = at_end.before.before.before.before.before.before in
     let at-space = at_bits.before.before.before.before in
-    let at-number = at-space.before.before.before.before.before in
+    let at-number = at-space.before.before.before.before.before.before in
     let at-word = at-number.before.before.before.before in
     let word = at-word.put-a.ensures in
     let number = at-number.put_number-b.ensures in

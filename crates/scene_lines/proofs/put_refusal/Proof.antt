@@ -9,9 +9,9 @@ returns-words : tie.Need-returns
 returns-words c =
     let at_field = c.before.before in
     let at-space = at_field.before.before.before.before in
-    let at_offset = at-space.before.before.before.before.before in
+    let at_offset = at-space.before.before.before.before.before.before in
     let at-between = at_offset.before.before.before.before in
-    let at-number = at-between.before.before.before.before.before in
+    let at-number = at-between.before.before.before.before.before.before in
     let at-word = at-number.before.before.before.before in
     let word = at-word.put-a.ensures in
     let number = at-number.put_number-b.ensures in

@@ -10,7 +10,7 @@ returns-line : tie.Need-returns
 unfolding refused_line
 returns-line c =
     let at_end = c.before.before in
-    let at_words = at_end.before.before.before.before.before in
+    let at_words = at_end.before.before.before.before.before.before in
     let words = at_words.put_refusal-a.ensures in
     let end = at_end.put.ensures in
     (then words.0 end, omega arith)

@@ -10,9 +10,9 @@ returns-line : tie.Need-returns
 unfolding refused_at_line
 returns-line c =
     let at_end = c.before.before in
-    let at_index = at_end.before.before.before.before.before in
+    let at_index = at_end.before.before.before.before.before.before in
     let at-space = at_index.before.before.before.before in
-    let at_words = at-space.before.before.before.before.before in
+    let at_words = at-space.before.before.before.before.before.before in
     let words = at_words.put_refusal-a.ensures in
     let space = at-space.put-b.ensures in
     let index = at_index.put_number-c.ensures in

@@ -11,7 +11,7 @@ use Rattle.scene_records.proofs.first_refused_of.Tie as tie
 returns-index : tie.Need-returns
 returns-index c =
     let asked = c.first_refused.ensures in
-    let read = c.before.before.before.before in
+    let read = c.before.before.before in
     let start = read.before.before.before.before in
     let list = read.read_floats.ensures ∙ ap (floats_at start.args.s.now start.args.at) start.requires.0 in
     (asked.0 ∙ ap (λ (l : List Float). first_refused l start.args.count) list, asked.1)

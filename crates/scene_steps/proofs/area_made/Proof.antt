@@ -9,7 +9,7 @@ build-area-requires c κs = let given = c.before.before.before.before.before.bef
 
 area-line-requires : tie.Need-area_line-requires
 area-line-requires c κs =
-    let looped = c.before.before.before.before in
+    let looped = c.before in
     let at-build = looped.before.before.before.before.before.before.before.before in
     let built = at-build.build_area.ensures in
     let header = looped.h-1.requires.1 in
@@ -32,7 +32,7 @@ returns-refused c =
 
 returns-looped : tie.Need-returns-in-Loop
 returns-looped c =
-    let looped = c.before.before.before.before.before in
+    let looped = c.before.before in
     let at-build = looped.before.before.before.before.before.before.before.before in
     let built = at-build.build_area.ensures in
     let header = looped.h-1.requires.1 in

@@ -15,7 +15,7 @@ build_from_spec =
     (λ c. search rules) (λ c. search rules) (λ c. search rules) (λ c κs. search rules) (λ c. search rules)
     (λ c. search rules) (λ c. search rules) (λ c. search rules)
     (λ c. let build = c.before.before.before.before.before.before in
-    let read = build.before.before.before.before.before.before.before in
+    let read = build.before.before.before.before.before.before in
     let start = read.before.before.before.before.before.before.before in
     let list = read.read_floats.ensures ∙ ap (floats_at start.args.s.now start.args.at) start.requires.exact in
     built _ _ _ _ _ list build.build.ensures))

@@ -9,19 +9,19 @@ returns-outside : tie.Need-returns-then-answer-eq0
 returns-outside c =
     let written = c.before.before in
     let word = written.put.ensures in
-    (simp (eq-eqb _ _ written.before.before.before.if-answer-eq0.true) word, omega arith)
+    (simp (eq-eqb _ _ written.before.before.before.before.if-answer-eq0.true) word, omega arith)
 
 returns-inside : tie.Need-returns-then-answer-eq1
 returns-inside c =
     let written = c.before.before in
-    let second-test = written.before.before.before in
+    let second-test = written.before.before.before.before in
     let word = written.put-then-answer-eq1.ensures in
     (simp (ne_eqb _ _ second-test.before.if-answer-eq0.false, eq-eqb _ _ second-test.if-answer-eq1.true) word, omega arith)
 
 returns-mute : tie.Need-returns
 returns-mute c =
     let written = c.before.before in
-    let second-test = written.before.before.before in
+    let second-test = written.before.before.before.before in
     let word = written.put-2.ensures in
     (simp (ne_eqb _ _ second-test.before.if-answer-eq0.false, ne_eqb _ _ second-test.if-answer-eq1.false) word, omega arith)
 

@@ -9,19 +9,19 @@ returns-containing : tie.Need-returns-then-relation-eq3
 returns-containing c =
     let written = c.before.before in
     let word = written.put.ensures in
-    (simp (eq-eqb _ _ written.before.before.before.if-relation-eq3.true) word, omega arith)
+    (simp (eq-eqb _ _ written.before.before.before.before.if-relation-eq3.true) word, omega arith)
 
 returns_within : tie.Need-returns-then-relation-eq4
 returns_within c =
     let written = c.before.before in
-    let second-test = written.before.before.before in
+    let second-test = written.before.before.before.before in
     let word = written.put-then-relation-eq4.ensures in
     (simp (ne_eqb _ _ second-test.before.if-relation-eq3.false, eq-eqb _ _ second-test.if-relation-eq4.true) word, omega arith)
 
 returns-equal : tie.Need-returns
 returns-equal c =
     let written = c.before.before in
-    let second-test = written.before.before.before in
+    let second-test = written.before.before.before.before in
     let word = written.put-2.ensures in
     (simp (ne_eqb _ _ second-test.before.if-relation-eq3.false, ne_eqb _ _ second-test.if-relation-eq4.false) word, omega arith)
 

@@ -9,19 +9,19 @@ returns-disjoint : tie.Need-returns-then-relation-eq0
 returns-disjoint c =
     let written = c.before.before in
     let word = written.put.ensures in
-    (simp (eq-eqb _ _ written.before.before.before.if-relation-eq0.true) word, omega arith)
+    (simp (eq-eqb _ _ written.before.before.before.before.if-relation-eq0.true) word, omega arith)
 
 returns-touching : tie.Need-returns-then-relation-eq1
 returns-touching c =
     let written = c.before.before in
-    let second-test = written.before.before.before in
+    let second-test = written.before.before.before.before in
     let word = written.put-then-relation-eq1.ensures in
     (simp (ne_eqb _ _ second-test.before.if-relation-eq0.false, eq-eqb _ _ second-test.if-relation-eq1.true) word, omega arith)
 
 returns-intersecting : tie.Need-returns-then-relation-eq2
 returns-intersecting c =
     let written = c.before.before in
-    let third-test = written.before.before.before in
+    let third-test = written.before.before.before.before in
     let second-test = third-test.before in
     let word = written.put-then-relation-eq2.ensures in
     (simp (ne_eqb _ _ second-test.before.if-relation-eq0.false, ne_eqb _ _ second-test.if-relation-eq1.false, eq-eqb _ _ third-test.if-relation-eq2.true) word, omega arith)

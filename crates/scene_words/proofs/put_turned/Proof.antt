@@ -8,6 +8,6 @@ put_turned_spec =
     tie.close
     (tie.spec
     (λ c. search rules) (λ c κs. search rules) (λ c. search rules) (λ c κs. search rules) (λ c. search rules)
-    (λ c. (simp c.before.before.before.before.before.if-reversed.true c.before.before.put.ensures, omega (arith, c.before.before.put.ensures.next_offset)))
+    (λ c. (simp c.before.before.before.before.before.before.if-reversed.true c.before.before.put.ensures, omega (arith, c.before.before.put.ensures.next_offset)))
     (λ c. search rules)
-    (λ c. (simp c.before.before.before.before.before.if-reversed.false c.before.before.put-else-reversed.ensures, omega (arith, c.before.before.put-else-reversed.ensures.next_offset))))
+    (λ c. (simp c.before.before.before.before.before.before.if-reversed.false c.before.before.put-else-reversed.ensures, omega (arith, c.before.before.put-else-reversed.ensures.next_offset))))

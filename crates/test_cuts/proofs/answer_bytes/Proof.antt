@@ -10,6 +10,6 @@ pub answer_bytes_spec : {M : Type 1} → statement M
 answer_bytes_spec =
     tie.close
     (tie.spec (λ c. search rules) (λ c κs. search rules) (λ c κs. search rules) (λ c. search rules) (λ c. search rules)
-    (λ c. sym (first_of_lem 1536 F.zero (omega (arith, c.before.before.before.before.before.requires.1))))
-    (λ c κs. let p = c.before.before.before.before.before.requires in record { corners = _; least = p.0; most = p.1; floats = first_of_lem 1536 F.zero (omega (arith, p.1)); bytes = p.2 })
+    (λ c. sym (first_of_lem 1536 F.zero (omega (arith, c.before.before.before.before.before.before.requires.1))))
+    (λ c κs. let p = c.before.before.before.before.before.before.requires in record { corners = _; least = p.0; most = p.1; floats = first_of_lem 1536 F.zero (omega (arith, p.1)); bytes = p.2 })
     (λ c. search rules))

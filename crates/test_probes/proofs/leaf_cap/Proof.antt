@@ -19,7 +19,7 @@ returns-3 : tie.Need-returns
 unfolding leaf_cap
 returns-3 c =
     let p = c.before.before in
-    let b = p.before.before in
+    let b = p.before.before.before in
     let room = b.before in
     simp (eq-eqb _ _ room.before.if-list-ne0.false, le-ltb _ _ room.if-out-lt4.false, p.put.ensures, b.bounding_cap-c.ensures)
 

@@ -11,4 +11,4 @@ intersects_spec =
     (λ c κs. search rules) (λ c κs. search rules)
     (λ c. simp (← c.before.before.is_empty.ensures, ← c.before.is_empty-2.ensures, c.if-is_empty.true))
     (λ c κs. search rules) (λ c κs. search rules) (λ c κs. search rules)
-    (λ c. simp (← c.before.before.before.before.before.is_empty.ensures, ← c.before.before.before.before.is_empty-2.ensures, c.before.before.before.if-is_empty.false, c.gte.ensures, c.before.new.ensures, c.before.before.add-reach.ensures)))
+    (λ c. simp (← c.before.before.before.before.before.before.before.before.before.is_empty.ensures, ← c.before.before.before.before.before.before.before.before.is_empty-2.ensures, c.before.before.before.before.before.before.before.if-is_empty.false, c.gte.ensures, c.before.new.ensures, c.before.before.before.before.add-reach.ensures)))

@@ -6,7 +6,7 @@ returns : tie.Need-returns
 returns c =
     let at_end = c.before in
     let end = at_end.before in
-    let at-start = end.before in
+    let at-start = end.before.before.before in
     let start = at-start.before in
     simp (c.beyond_by.ensures, at_end.dot_prod-e.ensures, end.cross_prod-2.ensures, at-start.dot_prod-s.ensures, start.cross_prod.ensures)
 

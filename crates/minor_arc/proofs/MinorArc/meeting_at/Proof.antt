@@ -14,13 +14,13 @@ returns-2 : tie.Need-returns-else-equals
 unfolding meeting_of
 returns-2 c =
     let chosen = c.before in
-    let other = chosen.before in
+    let other = chosen.before.before in
     let asked = other.before in
     simp (← asked.before.requires, ← asked.equals.ensures, other.if-equals.false, ← chosen.nearer.ensures) c.tried.ensures
 
 tried-requires : tie.Need-tried-requires
 tried-requires c κs =
-    let start = c.before.before.before in
+    let start = c.before.before.before.before in
     simp c.nearer.ensures (nearer_stored _ _ (candidate_stored start.args.self start.args.o start.requires))
 
 pub meeting_at_spec : {M : Type 1} → statement M

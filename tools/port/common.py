@@ -23,7 +23,7 @@ def read(path):
 
 def of_function(path):
     """Whether the file is a function's proof, whose names are its own."""
-    return os.path.basename(path) in ("Proof.antt", "Answers.antt", "Invariants.antt")
+    return bool(re.search(r"/proofs/.+/(Proof|Answers|Invariants)\.antt$", path))
 
 
 def snake(name):

@@ -19,7 +19,7 @@ OWN = re.compile(
     r"^(overflow-(add|sub|mul|shl|shr|cast|step)|nonzero-(div|rem)|(offset|slice)-bounds|(invariant|shape)-of|no-deeper"
     r"|type-inv|well-formed|view-is|loan-name|yielded-by|len-below|len-at-least|in-(default|ok|err)|call-mut|element-fits)$"
 )
-WORDS = {"inv": "invariant", "taken": "true", "left": "false", "kept": "auto", "given": "requires"}
+WORDS = {"inv": "invariant", "taken": "true", "left": "false", "kept": "auto"}
 
 
 def key(name):

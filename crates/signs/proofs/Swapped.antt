@@ -53,6 +53,7 @@ above_is_cleared nan a t = refl
 above_is_cleared (inf s) a t = refl
 above_is_cleared (fin false zero e) a t = sym (zero_exponent false e t)
 above_is_cleared (fin false (suc m) e) a t = refl
+above_is_cleared (fin true _ e) a t = elim a [ ]
 
 square_above : (x : Float) → Above (mul binary64 x x)
 unfolding mul

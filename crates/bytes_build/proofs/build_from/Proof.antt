@@ -14,7 +14,7 @@ leave-loop-requires c κs =
     let built = told.before.before.before.before.before.before.before.before in
     let start = start_of built in
     let a = start.args in
-    fitting a.mode a.list.now a.positions.now a.normals.now a.classes.now a.out.now start.pre
+    fitting a.mode a.list.now a.positions.now a.normals.now a.classes.now a.out.now start.requires
     (simp told.b-in-Loop-1.requires.1 at built.build-b.ensures) (search rules) (search rules) (search rules)
 
 returns : tie.Need-returns-in-Refused
@@ -23,7 +23,7 @@ returns c =
     let built = told.before.before.before.before.before.before.before.before in
     let start = start_of built in
     let a = start.args in
-    was_refused a.mode a.list.now a.positions.now a.normals.now a.classes.now a.out.now start.pre
+    was_refused a.mode a.list.now a.positions.now a.normals.now a.classes.now a.out.now start.requires
     (simp told.b-1.requires.1 at built.build-b.ensures) c.refusal.ensures
 
 returns-2 : tie.Need-returns-in-Loop
@@ -33,7 +33,7 @@ returns-2 c =
     let built = told.before.before.before.before.before.before.before.before in
     let start = start_of built in
     let a = start.args in
-    was_written a.mode a.list.now a.positions.now a.normals.now a.classes.now a.out.now start.pre
+    was_written a.mode a.list.now a.positions.now a.normals.now a.classes.now a.out.now start.requires
     (simp told.b-in-Loop-1.requires.1 at built.build-b.ensures) left.leave_loop.ensures
 
 pub build_from_spec : {M : Type 1} → statement M

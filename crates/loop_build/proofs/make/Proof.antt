@@ -25,7 +25,7 @@ write-ring-requires : tie.Need-write_ring-insides-requires
 write-ring-requires c κs =
     let turned = c.before.before.before in
     let prepared = prepared-of turned.before.before in
-    ready _ _ prepared.prepare-sum.ensures (start_of prepared).pre turned.is_clockwise-reversed.ensures
+    ready _ _ prepared.prepare-sum.ensures (start_of prepared).requires turned.is_clockwise-reversed.ensures
 
 returns-2 : tie.Need-returns
 returns-2 c =

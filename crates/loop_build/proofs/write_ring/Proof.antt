@@ -20,18 +20,18 @@ normals-of c = c.before.before.before.before
 
 copy-classes-requires : tie.Need-copy_classes-requires
 copy-classes-requires c κs =
-    let given = (start_of (corners-of c.before.before.before)).pre in
+    let given = (start_of (corners-of c.before.before.before)).requires in
     omega (arith, codes_size given, given.classes_room)
 
 slice-aggregate-insides-of : tie.Need-slice_bounds-insides_of-end-2
 slice-aggregate-insides-of c =
     let cornered = corners-of (normals-of c.before.before) in
-    sym (front_size (start_of cornered).pre _ cornered.write_corners.ensures)
+    sym (front_size (start_of cornered).requires _ cornered.write_corners.ensures)
 
 insides-of-requires : tie.Need-insides_of-requires
 insides-of-requires c κs =
     let cornered = corners-of (normals-of c.before.before) in
-    is_ring (start_of cornered).pre _ cornered.write_corners.ensures
+    is_ring (start_of cornered).requires _ cornered.write_corners.ensures
 
 returns : tie.Need-returns
 returns c =
@@ -39,7 +39,7 @@ returns c =
     let normalled = normals-of classed in
     let cornered = corners-of normalled in
     all_written
-    (start_of cornered).pre _ _ _
+    (start_of cornered).requires _ _ _
     c.insides_of.ensures cornered.write_corners.ensures normalled.write_normals.ensures classed.copy_classes.ensures
 
 pub write_ring_spec : {M : Type 1} → statement M

@@ -26,12 +26,12 @@ abbrev ear-of : tie.After-cut_apart-arg-in-loop-m-2-1 invariant-loop decreases-l
 ear-of c = c.before.before.before.before.before.before.before
 
 list-apart-requires : tie.Need-list_apart-k-requires invariant-loop decreases-loop
-list-apart-requires c κs = let given = (start_of c).pre in (given.0.below, given.2, given.0.few)
+list-apart-requires c κs = let given = (start_of c).requires in (given.0.below, given.2, given.0.few)
 
 loop-holds : tie.Need-loop-m-init invariant-loop decreases-loop
 loop-holds c =
     let listed = c.before.before in
-    let given = (start_of listed.before).pre in
+    let given = (start_of listed.before).requires in
     let list = listed.list_apart-k in
     begin given.0 given.1 given.3 (omega (arith, given.2, list.auto.apart)) list.ensures
 
@@ -65,7 +65,7 @@ add-t : tie.Need-overflow_add-t invariant-loop decreases-loop
 add-t c =
     let head = head_of (ear-of c.before.before.before.before.before.before.before).before in
     let listed = head.before.before.before in
-    search (rules, head.loop-m.invariant.count, (start_of listed.before).pre.0.few)
+    search (rules, head.loop-m.invariant.count, (start_of listed.before).requires.0.few)
 
 loop-again : tie.Need-loop-m-preserved invariant-loop decreases-loop
 loop-again c =

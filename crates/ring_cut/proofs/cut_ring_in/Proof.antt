@@ -20,14 +20,14 @@ cut_of c = c.before.before.before.before.before.before.before.before
 cut-all-requires : tie.Need-cut_all-requires
 cut-all-requires c κs =
     let whole = c.before.before.before.before.before.before.before.before in
-    let given = (start_of whole).pre in
+    let given = (start_of whole).requires in
     let made = ready given.0 whole.whole_ring.ensures in
     (made.0, made.1, omega (arith, made.2, given.1), omega (arith, made.2, given.2))
 
 copy-numbers-requires : tie.Need-copy_numbers-requires
 copy-numbers-requires c κs =
     let cut = cut_of c.before.before in
-    let given = (start_of (whole_of cut)).pre in
+    let given = (start_of (whole_of cut)).requires in
     omega (arith, cut.Cut-all.kept.1.1.1.1.0, given.2, given.3)
 
 returns : tie.Need-returns-then-cut_all
@@ -36,14 +36,14 @@ returns c =
     let tested = copied.before.before in
     let cut = cut_of tested.before in
     let whole = whole_of cut in
-    let given = (start_of whole).pre in
+    let given = (start_of whole).requires in
     all_found given.0 whole.whole_ring.ensures _ _ cut.Cut-all.ensures tested.if-cut_all.true given.2 copied.copy_numbers.ensures
 
 returns-2 : tie.Need-returns
 returns-2 c =
     let cut = cut_of c.before in
     let whole = whole_of cut in
-    none_found (start_of whole).pre.0 whole.whole_ring.ensures _ _ cut.Cut-all.ensures c.if-cut_all.false
+    none_found (start_of whole).requires.0 whole.whole_ring.ensures _ _ cut.Cut-all.ensures c.if-cut_all.false
 
 pub cut_ring_in_spec : {M : Type 1} → statement M
 cut_ring_in_spec =

@@ -14,7 +14,7 @@ reclassify_spec =
     (λ c κs. (indexed c.before.before.before.requires.0, c.before.before.before.requires.1, c.before.before.before.requires.0.few))
     (λ c κs. (c.before.before.before.before.requires.1, c.before.before.before.before.requires.0.below _ c.before.before.before.before.requires.1))
     (λ c. search rules) (λ c. search rules)
-    (λ c. omega (arith, c.shared_slice_known-3-1.requires c.before.before.before.before.before.before.args.i))
+    (λ c. omega (arith, c.shared_slice_known-3-1.given c.before.before.before.before.before.before.args.i))
     (λ c. c.before.before.before.before.before.before.requires.0.below _ c.before.before.before.before.before.before.requires.1)
     (λ c κs. search rules)
     (λ c. search rules)

@@ -13,17 +13,17 @@ abbrev start_of : tie.After-wrapped-at_cut → tie.Start
 start_of c = c.before.before.before.before.before
 
 previous-requires : tie.Need-previous-before_cut-requires
-previous-requires c κs = (c.wrapped-at_cut.ensures.1, (start_of c).pre.0.few)
+previous-requires c κs = (c.wrapped-at_cut.ensures.1, (start_of c).requires.0.few)
 
 reclassify-requires : tie.Need-reclassify-a-requires
-reclassify-requires c κs = let wrap = c.before.before in ((start_of wrap).pre.0, wrap.wrapped-at_cut.ensures.1)
+reclassify-requires c κs = let wrap = c.before.before in ((start_of wrap).requires.0, wrap.wrapped-at_cut.ensures.1)
 
 reclassify-requires-2 : tie.Need-reclassify-b-requires
 reclassify-requires-2 c κs =
     let first = c.before.before.before in
     let back = first.before.before in
     let wrap = back.before in
-    (relent (start_of wrap).pre.0 first.reclassify-a.auto.classes, omega (arith, back.previous-before_cut.ensures.1, wrap.wrapped-at_cut.ensures.1))
+    (relent (start_of wrap).requires.0 first.reclassify-a.auto.classes, omega (arith, back.previous-before_cut.ensures.1, wrap.wrapped-at_cut.ensures.1))
 
 returns : tie.Need-returns-then-m-gt3
 unfolding reclassify_both one_changed

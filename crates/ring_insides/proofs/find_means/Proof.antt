@@ -27,12 +27,12 @@ abbrev ear-of : tie.After-is_both invariant-loop decreases-loop → tie.Else-i-m
 ear-of c = c.before.before.before
 
 list-apart-requires : tie.Need-list_apart-count-requires invariant-loop decreases-loop
-list-apart-requires c κs = let given = (start_of c).pre in (given.0.below, given.2, given.0.few)
+list-apart-requires c κs = let given = (start_of c).requires in (given.0.below, given.2, given.0.few)
 
 loop-holds : tie.Need-loop-m-init invariant-loop decreases-loop
 loop-holds c =
     let listed = c.before.before in
-    let given = (start_of listed.before).pre in
+    let given = (start_of listed.before).requires in
     let list = listed.list_apart-count in
     begin given.0 given.1 (omega (arith, given.2, list.auto.apart)) list.ensures
 

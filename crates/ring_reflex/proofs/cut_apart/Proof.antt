@@ -17,7 +17,7 @@ cut-told-requires c κs = let given = c.before.before.before.before.before.befor
 list-apart-requires : tie.Need-list_apart-requires
 list-apart-requires c κs =
     let cut = c.before.before.before.before.before.before in
-    let given = (start_of cut).pre in
+    let given = (start_of cut).requires in
     let told = cut.cut_told in
     let lent = cut_lent given.0 given.1 told.ensures.0 told.auto.ids told.auto.classes in
     (lent.below, cut_room given.0 given.1 told.ensures.0 told.auto.ids told.auto.classes given.5, lent.few)
@@ -26,7 +26,7 @@ returns : tie.Need-returns-then-cut_told
 returns c =
     let listed = c.before.before in
     let cut = listed.before.before.before.before.before.before.before in
-    let given = (start_of cut).pre in
+    let given = (start_of cut).requires in
     let told = cut.cut_told in
     let list = list_afresh given.0 given.1 told.ensures.0 told.auto.ids told.auto.classes listed.list_apart.ensures in
     (told.ensures.0, list.0, omega (arith, list.1, given.5))
@@ -34,7 +34,7 @@ returns c =
 returns-2 : tie.Need-returns
 returns-2 c =
     let cut = c.before.before.before.before.before in
-    let given = (start_of cut).pre in
+    let given = (start_of cut).requires in
     let told = cut.cut_told in
     let same = sym told.ensures.1 ∙ c.if-cut_told.false in
     let list = list_kept given.0 given.1 told.ensures.0 told.auto.ids told.auto.classes given.2 given.3 same in

@@ -18,15 +18,15 @@ returns : tie.Need-returns-then-apart-eq0
 returns c =
     let convex = c.before in
     let asked = convex.before in
-    let given = (start_of asked).pre in
+    let given = (start_of asked).requires in
     free_none given.0 given.1 _ (sym asked.is_convex.ensures ∙ convex.if-is_convex.true) c.if-apart-eq0.true
 
 triangle-at-requires : tie.Need-triangle_at-requires
-triangle-at-requires c κs = let given = (start_of c.before.before).pre in (indexed given.0, given.2, given.0.few)
+triangle-at-requires c κs = let given = (start_of c.before.before).requires in (indexed given.0, given.2, given.0.few)
 
 is-one-held-requires : tie.Need-is_one_held-requires
 is-one-held-requires c κs =
-    let given = (start_of c.before.before.before).pre in
+    let given = (start_of c.before.before.before).requires in
     (apart_indexed given.0 given.1, omega (arith, apart_few given.0 given.1, given.0.few))
 
 returns-2 : tie.Need-returns-then-is_convex
@@ -34,7 +34,7 @@ returns-2 c =
     let drawn = c.before in
     let convex = drawn.before.before in
     let asked = convex.before in
-    let given = (start_of asked).pre in
+    let given = (start_of asked).requires in
     rw (c.is_one_held.ensures, drawn.triangle_at.ensures) (free given.0 given.1 _ (sym asked.is_convex.ensures ∙ convex.if-is_convex.true))
 
 returns-3 : tie.Need-returns

@@ -12,7 +12,7 @@ pair-met-requires : tie.Need-pair_met-requires
 pair-met-requires c κs =
     let judged = c.before.before in
     let second = looked judged in
-    let ready = second.before.before.before.before.before.before.pre in
+    let ready = second.before.before.before.before.before.before.requires in
     let one = second.before.index_of-i.ensures.0 in
     let two = second.index_of-j.ensures.0 in
     let fine = c.enum_told-1.requires.1 in
@@ -22,14 +22,14 @@ returns-bad : tie.Need-returns-in-Bad
 returns-bad c =
     let judged = c.before.before.before in
     let second = looked judged in
-    let ready = second.before.before.before.before.before.before.pre in
+    let ready = second.before.before.before.before.before.before.requires in
     pair_bad ready _ _ second.before.index_of-i.ensures.0 second.index_of-j.ensures.0 judged.judge_numbers.ensures c.before.f-1.requires.1
 
 returns-fine : tie.Need-returns-in-Fine
 returns-fine c =
     let judged = c.before.before.before in
     let second = looked judged in
-    let ready = second.before.before.before.before.before.before.pre in
+    let ready = second.before.before.before.before.before.before.requires in
     pair_fine ready _ _ second.before.index_of-i.ensures.0 second.index_of-j.ensures.0 judged.judge_numbers.ensures c.before.enum_told-1.requires.1 c.pair_met.ensures
 
 pub pair_step_spec : {M : Type 1} → statement M

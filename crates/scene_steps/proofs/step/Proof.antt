@@ -18,17 +18,17 @@ pair_found c = c.before.before.before.before
 area-step-requires : tie.Need-area_step-requires
 area-step-requires c κs =
     let read = (area-found c).before.before in
-    ready_on read.before.before.before.before.before.pre read.read_at.ensures (area-found c).number.given.1
+    ready_on read.before.before.before.before.before.requires read.read_at.ensures (area-found c).number.given.1
 
 place-step-requires : tie.Need-place_step-requires
 place-step-requires c κs =
     let read = (place_found c).before.before in
-    ready_on read.before.before.before.before.before.pre read.read_at.ensures (place_found c).number2.given.1
+    ready_on read.before.before.before.before.before.requires read.read_at.ensures (place_found c).number2.given.1
 
 pair-step-requires : tie.Need-pair_step-requires
 pair-step-requires c κs =
     let read = (pair_found c).before.before in
-    ready_on read.before.before.before.before.before.pre read.read_at.ensures (pair_found c).number3.given.1
+    ready_on read.before.before.before.before.before.requires read.read_at.ensures (pair_found c).number3.given.1
 
 returns-end : tie.Need-returns-in-End
 returns-end c = step_is _ _ _ _ _ c.before.before.read_at.ensures c.enum_told-1.requires.1 refl

@@ -105,7 +105,7 @@ pub fn signed(down: bool, r: f64) -> f64
 }
 
 // The angle of (x, y) from the positive x axis, from -PI to PI. For finite arguments that are not both zero it is within 2^-45 of the exact angle: that is
-// `near_angle`, and from this contract `atan2-near` (crate exact_angles).
+// `near_angle`, and from this contract `atan2_near` (crate exact_angles).
 pub fn atan2(y: f64, x: f64) -> f64
     ensures { result ≡ Atn.atan2 y x }
 {
@@ -115,7 +115,7 @@ pub fn atan2(y: f64, x: f64) -> f64
 impl Angle {
     pub const ZERO: Angle = Angle(0.0);
 
-    // The angle whose sine and cosine are in the proportion y to x, as near to the exact one as that of `atan2` (`between-near`).
+    // The angle whose sine and cosine are in the proportion y to x, as near to the exact one as that of `atan2` (`between_near`).
     pub fn between(y: f64, x: f64) -> Angle
         ensures { result ≡ Angles.between y x }
     {

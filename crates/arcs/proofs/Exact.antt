@@ -18,16 +18,16 @@ use Rattle.minor_arc.specs.Arcs.{arc_side, on_arc, meeting_of, meeting_point}
 use Rattle.arc_relations.specs.declared.MinorArcRelation.{MinorArcRelation}
 use Rattle.arc_relations.specs.declared.MinorArcRelation.TheVariants.{Disjoint, Intersecting, Touching, Overlapping}
 use Rattle.arc_relations.specs.Relations.{relation_of}
-use Rattle.arcs.specs.Answers.{Told, refused, answer, clearedArc, arcFault, query_fault, pair_fault, judged, side_told, boolTold, pointTold, relationTold}
-use Rattle.arcs.specs.Answers.{newTold, opposite_told, sideOfTold, contains_told, intersection_told, relate_told}
+use Rattle.arcs.specs.Answers.{Told, refused, answer, cleared_arc, arc_fault, query_fault, pair_fault, judged, side_told, bool_told, point_told, relation_told}
+use Rattle.arcs.specs.Answers.{new_told, opposite_told, side_of_told, contains_told, intersection_told, relate_told}
 use Rattle.arcs.specs.Why.{EndsWhy, ArcWhy, QueryWhy, PairWhy, Exact}
 
 -- ---- what is judged
 ends_exact : (s e : Vec3) → Exactly (first (fault_of s) (fault_of e)) (EndsWhy s e)
 ends_exact s e = then_exact ((Judge.exact).position s) (λ z. (Judge.exact).position e)
 
-arc_exact : (a : MinorArc) → Exactly (arcFault a) (ArcWhy a)
-unfolding arcFault
+arc_exact : (a : MinorArc) → Exactly (arc_fault a) (ArcWhy a)
+unfolding arc_fault
 arc_exact a = then_exact (ends_exact a.start a.end) (λ z. (Judge.exact).vector a.normal)
 
 pub query_exact : (a : MinorArc) (p : Vec3) → Exactly (query_fault a p) (QueryWhy a p)
@@ -46,15 +46,15 @@ side_answers Left = refl
 side_answers Right = refl
 side_answers Collinear = refl
 
-bool_answers : (b : Bool) → number (boolTold b) ≡ 0
+bool_answers : (b : Bool) → number (bool_told b) ≡ 0
 bool_answers true = refl
 bool_answers false = refl
 
-point_answers : (p : Point) → number (pointTold p) ≡ 0
+point_answers : (p : Point) → number (point_told p) ≡ 0
 point_answers Absent = refl
 point_answers (At p) = refl
 
-relation_answers : (r : MinorArcRelation) → number (relationTold r) ≡ 0
+relation_answers : (r : MinorArcRelation) → number (relation_told r) ≡ 0
 relation_answers Disjoint = refl
 relation_answers (Intersecting p) = refl
 relation_answers (Touching p) = refl
@@ -64,12 +64,12 @@ judged_exact : {given : ℕ} {Why : ℕ → Type 0} → Exactly given Why → (t
 judged_exact x t n = refuses refused number (λ k. refl) x (λ z. rw z n) (λ k e. rw e)
 
 pub exact : Exact
-unfolding newTold opposite_told sideOfTold contains_told intersection_told relate_told
+unfolding new_told opposite_told side_of_told contains_told intersection_told relate_told
 exact = record {
   new = λ s e. judged_exact (ends_exact (cleared s) (cleared e)) _ refl;
-  opposite = λ a. judged_exact (arc_exact (clearedArc a)) _ refl;
-  side = λ a p. judged_exact (query_exact (clearedArc a) (cleared p)) _ (side_answers (arc_side (clearedArc a) (cleared p)));
-  contains = λ a p. judged_exact (query_exact (clearedArc a) (cleared p)) _ (bool_answers (on_arc (clearedArc a) (cleared p)));
-  intersection = λ mode a b. judged_exact (pair_exact (clearedArc a) (clearedArc b)) _ (point_answers (meeting_point (meeting_of mode (clearedArc a) (clearedArc b))));
-  relate = λ mode a b. judged_exact (pair_exact (clearedArc a) (clearedArc b)) _ (relation_answers (relation_of mode (clearedArc a) (clearedArc b)));
+  opposite = λ a. judged_exact (arc_exact (cleared_arc a)) _ refl;
+  side = λ a p. judged_exact (query_exact (cleared_arc a) (cleared p)) _ (side_answers (arc_side (cleared_arc a) (cleared p)));
+  contains = λ a p. judged_exact (query_exact (cleared_arc a) (cleared p)) _ (bool_answers (on_arc (cleared_arc a) (cleared p)));
+  intersection = λ mode a b. judged_exact (pair_exact (cleared_arc a) (cleared_arc b)) _ (point_answers (meeting_point (meeting_of mode (cleared_arc a) (cleared_arc b))));
+  relate = λ mode a b. judged_exact (pair_exact (cleared_arc a) (cleared_arc b)) _ (relation_answers (relation_of mode (cleared_arc a) (cleared_arc b)));
 }

@@ -22,7 +22,7 @@ use Rattle.arcs.proofs.side_of as SideOf
 use Rattle.arcs.proofs.contains_position as Contains
 use Rattle.arcs.proofs.intersection as Intersection
 use Rattle.arcs.proofs.relate as Relate
-use Rattle.arcs.specs.Answers.{Told, refused, answer, toldMade, toldSided, toldContained, toldMet, told_related}
+use Rattle.arcs.specs.Answers.{Told, refused, answer, told_made, told_sided, told_contained, told_met, told_related}
 
 -- ---- from the number and values back to the answer
 abbrev back_made : Told → ArcMade
@@ -32,7 +32,7 @@ back_made (answer n (a ∷ b ∷ [])) = Made.Refused 0
 back_made (answer n (a ∷ [])) = Made.Refused 0
 back_made (answer n []) = Made.Refused 0
 
-made_back : (x : ArcMade) → back_made (toldMade x) ≡ x
+made_back : (x : ArcMade) → back_made (told_made x) ≡ x
 made_back (Made.Refused n) = refl
 made_back (Made.Arc a) = refl
 
@@ -42,7 +42,7 @@ back_sided (answer (negsuc n) vs) = Sided.Right
 back_sided (answer (pos zero) vs) = Sided.Collinear
 back_sided (answer (pos (suc n)) vs) = Sided.Left
 
-sided_back : (x : Sided) → back_sided (toldSided x) ≡ x
+sided_back : (x : Sided) → back_sided (told_sided x) ≡ x
 sided_back (Sided.Refused n) = refl
 sided_back Sided.Collinear = refl
 sided_back Sided.Left = refl
@@ -54,7 +54,7 @@ back_contained (answer (negsuc n) vs) = Contained.No
 back_contained (answer (pos zero) vs) = Contained.No
 back_contained (answer (pos (suc n)) vs) = Contained.Yes
 
-contained_back : (x : Contained) → back_contained (toldContained x) ≡ x
+contained_back : (x : Contained) → back_contained (told_contained x) ≡ x
 contained_back (Contained.Refused n) = refl
 contained_back Contained.No = refl
 contained_back Contained.Yes = refl
@@ -64,7 +64,7 @@ back_met (refused n) = Met.Refused n
 back_met (answer n []) = Met.Nowhere
 back_met (answer n (p ∷ vs)) = Met.At p
 
-met_back : (x : Met) → back_met (toldMet x) ≡ x
+met_back : (x : Met) → back_met (told_met x) ≡ x
 met_back (Met.Refused n) = refl
 met_back Met.Nowhere = refl
 met_back (Met.At p) = refl
@@ -88,17 +88,17 @@ related_back (Related.Touching p) = refl
 related_back (Related.Overlapping a) = refl
 
 -- ---- so two answers that are told alike are one
-pub one_made : OneToOne toldMade
-one_made = by_back toldMade back_made made_back
+pub one_made : OneToOne told_made
+one_made = by_back told_made back_made made_back
 
-pub one_sided : OneToOne toldSided
-one_sided = by_back toldSided back_sided sided_back
+pub one_sided : OneToOne told_sided
+one_sided = by_back told_sided back_sided sided_back
 
-pub one_contained : OneToOne toldContained
-one_contained = by_back toldContained back_contained contained_back
+pub one_contained : OneToOne told_contained
+one_contained = by_back told_contained back_contained contained_back
 
-pub one_met : OneToOne toldMet
-one_met = by_back toldMet back_met met_back
+pub one_met : OneToOne told_met
+one_met = by_back told_met back_met met_back
 
 pub one_related : OneToOne told_related
 one_related = by_back told_related back_related related_back

@@ -35,105 +35,105 @@ abbrev pub vectors : MinorArc → List Vec3
 vectors a = a.start ∷ a.end ∷ a.normal ∷ []
 
 -- ---- the number and values of each case, a relation's by SCOPE 9
-abbrev pub toldMade : ArcMade → Told
-toldMade (Made.Refused n) = refused n
-toldMade (Made.Arc a) = answer (pos 0) (vectors a)
+abbrev pub told_made : ArcMade → Told
+told_made (Made.Refused n) = refused n
+told_made (Made.Arc a) = answer (pos 0) (vectors a)
 
-abbrev pub toldSided : Sided → Told
-toldSided (Sided.Refused n) = refused n
-toldSided Sided.Collinear = answer (side_code Collinear) []
-toldSided Sided.Left = answer (side_code Left) []
-toldSided Sided.Right = answer (side_code Right) []
+abbrev pub told_sided : Sided → Told
+told_sided (Sided.Refused n) = refused n
+told_sided Sided.Collinear = answer (side_code Collinear) []
+told_sided Sided.Left = answer (side_code Left) []
+told_sided Sided.Right = answer (side_code Right) []
 
-abbrev pub toldContained : Contained → Told
-toldContained (Contained.Refused n) = refused n
-toldContained Contained.No = answer (pos 0) []
-toldContained Contained.Yes = answer (pos 1) []
+abbrev pub told_contained : Contained → Told
+told_contained (Contained.Refused n) = refused n
+told_contained Contained.No = answer (pos 0) []
+told_contained Contained.Yes = answer (pos 1) []
 
-abbrev pub toldMet : Met → Told
-toldMet (Met.Refused n) = refused n
-toldMet Met.Nowhere = answer (pos 0) []
-toldMet (Met.At p) = answer (pos 1) (p ∷ [])
+abbrev pub told_met : Met → Told
+told_met (Met.Refused n) = refused n
+told_met Met.Nowhere = answer (pos 0) []
+told_met (Met.At p) = answer (pos 1) (p ∷ [])
 
-abbrev pub toldRelated : ArcRelated → Told
-toldRelated (Related.Refused n) = refused n
-toldRelated Related.Disjoint = answer (pos 0) []
-toldRelated (Related.Intersecting p) = answer (pos 1) (p ∷ [])
-toldRelated (Related.Touching p) = answer (pos 2) (p ∷ [])
-toldRelated (Related.Overlapping a) = answer (pos 3) (vectors a)
+abbrev pub told_related : ArcRelated → Told
+told_related (Related.Refused n) = refused n
+told_related Related.Disjoint = answer (pos 0) []
+told_related (Related.Intersecting p) = answer (pos 1) (p ∷ [])
+told_related (Related.Touching p) = answer (pos 2) (p ∷ [])
+told_related (Related.Overlapping a) = answer (pos 3) (vectors a)
 
 -- ---- what is handed in. SCOPE 3: free of -0.0
-abbrev pub clearedArc : MinorArc → MinorArc
-clearedArc a = record { start = cleared a.start; end = cleared a.end; normal = cleared a.normal }
+abbrev pub cleared_arc : MinorArc → MinorArc
+cleared_arc a = record { start = cleared a.start; end = cleared a.end; normal = cleared a.normal }
 
 -- SCOPE 26: an arc's positions one by one, 3 before 4, ahead of its normal; a first arc before a second, both before a query position
-unfoldable pub arcFault : MinorArc → ℕ
-arcFault a = first (first (fault_of a.start) (fault_of a.end)) (vector_fault a.normal 0)
+unfoldable pub arc_fault : MinorArc → ℕ
+arc_fault a = first (first (fault_of a.start) (fault_of a.end)) (vector_fault a.normal 0)
 
-abbrev pub queryFault : MinorArc → Vec3 → ℕ
-queryFault a p = first (arcFault a) (fault_of p)
+abbrev pub query_fault : MinorArc → Vec3 → ℕ
+query_fault a p = first (arc_fault a) (fault_of p)
 
-abbrev pub pairFault : MinorArc → MinorArc → ℕ
-pairFault a b = first (arcFault a) (arcFault b)
+abbrev pub pair_fault : MinorArc → MinorArc → ℕ
+pair_fault a b = first (arc_fault a) (arc_fault b)
 
 -- ---- the answers: the refusal, or what there is to tell
 abbrev pub judged : ℕ → Told → Told
 judged zero t = t
 judged (suc k) t = refused (suc k)
 
-abbrev pub sideTold : Side → Told
-sideTold Collinear = answer (side_code Collinear) []
-sideTold Left = answer (side_code Left) []
-sideTold Right = answer (side_code Right) []
+abbrev pub side_told : Side → Told
+side_told Collinear = answer (side_code Collinear) []
+side_told Left = answer (side_code Left) []
+side_told Right = answer (side_code Right) []
 
-abbrev pub boolTold : Bool → Told
-boolTold false = answer (pos 0) []
-boolTold true = answer (pos 1) []
+abbrev pub bool_told : Bool → Told
+bool_told false = answer (pos 0) []
+bool_told true = answer (pos 1) []
 
-abbrev pub pointTold : Point → Told
-pointTold Absent = answer (pos 0) []
-pointTold (At p) = answer (pos 1) (p ∷ [])
+abbrev pub point_told : Point → Told
+point_told Absent = answer (pos 0) []
+point_told (At p) = answer (pos 1) (p ∷ [])
 
-abbrev pub relationTold : MinorArcRelation → Told
-relationTold Disjoint = answer (pos 0) []
-relationTold (Intersecting p) = answer (pos 1) (p ∷ [])
-relationTold (Touching p) = answer (pos 2) (p ∷ [])
-relationTold (Overlapping a) = answer (pos 3) (vectors a)
+abbrev pub relation_told : MinorArcRelation → Told
+relation_told Disjoint = answer (pos 0) []
+relation_told (Intersecting p) = answer (pos 1) (p ∷ [])
+relation_told (Touching p) = answer (pos 2) (p ∷ [])
+relation_told (Overlapping a) = answer (pos 3) (vectors a)
 
-unfoldable pub newTold : Vec3 → Vec3 → Told
-newTold s e = judged (first (fault_of s) (fault_of e)) (answer (pos 0) (vectors (arc_of s e)))
+unfoldable pub new_told : Vec3 → Vec3 → Told
+new_told s e = judged (first (fault_of s) (fault_of e)) (answer (pos 0) (vectors (arc_of s e)))
 
 unfoldable pub opposite_told : MinorArc → Told
-opposite_told a = judged (arcFault a) (answer (pos 0) (vectors (reversed a)))
+opposite_told a = judged (arc_fault a) (answer (pos 0) (vectors (reversed a)))
 
-unfoldable pub sideOfTold : MinorArc → Vec3 → Told
-sideOfTold a p = judged (queryFault a p) (sideTold (arc_side a p))
+unfoldable pub side_of_told : MinorArc → Vec3 → Told
+side_of_told a p = judged (query_fault a p) (side_told (arc_side a p))
 
 unfoldable pub contains_told : MinorArc → Vec3 → Told
-contains_told a p = judged (queryFault a p) (boolTold (on_arc a p))
+contains_told a p = judged (query_fault a p) (bool_told (on_arc a p))
 
 -- SCOPE 55: these two take the mode
 unfoldable pub intersection_told : Mode → MinorArc → MinorArc → Told
-intersection_told mode a b = judged (pairFault a b) (pointTold (meeting_point (meeting_of mode a b)))
+intersection_told mode a b = judged (pair_fault a b) (point_told (meeting_point (meeting_of mode a b)))
 
 unfoldable pub relate_told : Mode → MinorArc → MinorArc → Told
-relate_told mode a b = judged (pairFault a b) (relationTold (relation_of mode a b))
+relate_told mode a b = judged (pair_fault a b) (relation_told (relation_of mode a b))
 
 -- of whatever is handed in
-abbrev pub newAnswer : Vec3 → Vec3 → Told
-newAnswer s e = newTold (cleared s) (cleared e)
+abbrev pub new_answer : Vec3 → Vec3 → Told
+new_answer s e = new_told (cleared s) (cleared e)
 
-abbrev pub oppositeAnswer : MinorArc → Told
-oppositeAnswer a = opposite_told (clearedArc a)
+abbrev pub opposite_answer : MinorArc → Told
+opposite_answer a = opposite_told (cleared_arc a)
 
 abbrev pub side_answer : MinorArc → Vec3 → Told
-side_answer a p = sideOfTold (clearedArc a) (cleared p)
+side_answer a p = side_of_told (cleared_arc a) (cleared p)
 
-abbrev pub containsAnswer : MinorArc → Vec3 → Told
-containsAnswer a p = contains_told (clearedArc a) (cleared p)
+abbrev pub contains_answer : MinorArc → Vec3 → Told
+contains_answer a p = contains_told (cleared_arc a) (cleared p)
 
-abbrev pub intersectionAnswer : Mode → MinorArc → MinorArc → Told
-intersectionAnswer mode a b = intersection_told mode (clearedArc a) (clearedArc b)
+abbrev pub intersection_answer : Mode → MinorArc → MinorArc → Told
+intersection_answer mode a b = intersection_told mode (cleared_arc a) (cleared_arc b)
 
-abbrev pub relateAnswer : Mode → MinorArc → MinorArc → Told
-relateAnswer mode a b = relate_told mode (clearedArc a) (clearedArc b)
+abbrev pub relate_answer : Mode → MinorArc → MinorArc → Told
+relate_answer mode a b = relate_told mode (cleared_arc a) (cleared_arc b)

@@ -49,7 +49,7 @@ pub enum ArcRelated {
 
 // An arc as it is read: free of -0.0.
 pub fn clear_arc(a: MinorArc) -> MinorArc
-    ensures { result ≡ Answers.clearedArc a }
+    ensures { result ≡ Answers.cleared_arc a }
 {
     MinorArc {
         start: a.start.clear(),
@@ -60,7 +60,7 @@ pub fn clear_arc(a: MinorArc) -> MinorArc
 
 // The one judge of an arc.
 pub fn arc_fault(a: MinorArc) -> u8
-    ensures { result ≡ Answers.arcFault a }
+    ensures { result ≡ Answers.arc_fault a }
 {
     let ends = judge::first(judge::fault(a.start), judge::fault(a.end));
     judge::first(ends, judge::vector_fault(a.normal))
@@ -81,7 +81,7 @@ fn pair_fault(a: MinorArc, b: MinorArc) -> u8
 }
 
 fn tell_side(s: Side) -> Sided
-    ensures { Answers.toldSided result ≡ Answers.side_told s }
+    ensures { Answers.told_sided result ≡ Answers.side_told s }
 {
     match s {
         Side::Left => Sided::Left,
@@ -91,13 +91,13 @@ fn tell_side(s: Side) -> Sided
 }
 
 fn tell_contained(b: bool) -> Contained
-    ensures { Answers.toldContained result ≡ Answers.boolTold b }
+    ensures { Answers.told_contained result ≡ Answers.bool_told b }
 {
     if b { Contained::Yes } else { Contained::No }
 }
 
 fn tell_point(p: Point) -> Met
-    ensures { Answers.toldMet result ≡ Answers.pointTold p }
+    ensures { Answers.told_met result ≡ Answers.point_told p }
 {
     match p {
         Point::Absent => Met::Nowhere,
@@ -106,7 +106,7 @@ fn tell_point(p: Point) -> Met
 }
 
 fn tell_relation(r: MinorArcRelation) -> ArcRelated
-    ensures { Answers.told_related result ≡ Answers.relationTold r }
+    ensures { Answers.told_related result ≡ Answers.relation_told r }
 {
     match r {
         MinorArcRelation::Disjoint => ArcRelated::Disjoint,
@@ -117,7 +117,7 @@ fn tell_relation(r: MinorArcRelation) -> ArcRelated
 }
 
 pub fn new(start: Vec3, end: Vec3) -> ArcMade
-    ensures { Answers.toldMade result ≡ Answers.newAnswer start end }
+    ensures { Answers.told_made result ≡ Answers.new_answer start end }
 {
     let s = start.clear();
     let e = end.clear();
@@ -129,7 +129,7 @@ pub fn new(start: Vec3, end: Vec3) -> ArcMade
 }
 
 pub fn opposite(a: MinorArc) -> ArcMade
-    ensures { Answers.toldMade result ≡ Answers.oppositeAnswer a }
+    ensures { Answers.told_made result ≡ Answers.opposite_answer a }
 {
     let arc = clear_arc(a);
     let f = arc_fault(arc);
@@ -140,7 +140,7 @@ pub fn opposite(a: MinorArc) -> ArcMade
 }
 
 pub fn side_of(a: MinorArc, p: Vec3) -> Sided
-    ensures { Answers.toldSided result ≡ Answers.side_answer a p }
+    ensures { Answers.told_sided result ≡ Answers.side_answer a p }
 {
     let arc = clear_arc(a);
     let q = p.clear();
@@ -152,7 +152,7 @@ pub fn side_of(a: MinorArc, p: Vec3) -> Sided
 }
 
 pub fn contains_position(a: MinorArc, p: Vec3) -> Contained
-    ensures { Answers.toldContained result ≡ Answers.containsAnswer a p }
+    ensures { Answers.told_contained result ≡ Answers.contains_answer a p }
 {
     let arc = clear_arc(a);
     let q = p.clear();
@@ -164,7 +164,7 @@ pub fn contains_position(a: MinorArc, p: Vec3) -> Contained
 }
 
 pub fn intersection(mode: Mode, a: MinorArc, b: MinorArc) -> Met
-    ensures { Answers.toldMet result ≡ Answers.intersectionAnswer mode a b }
+    ensures { Answers.told_met result ≡ Answers.intersection_answer mode a b }
 {
     let one = clear_arc(a);
     let other = clear_arc(b);

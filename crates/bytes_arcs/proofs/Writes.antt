@@ -14,7 +14,7 @@ use Rattle.wire.proofs.Bytes.{three}
 use Rattle.bytes_loop.specs.Layout.{size_fault}
 use Rattle.bytes_loop.proofs.Faults.{size_right}
 use Rattle.wire.proofs.Lays.{width}
-use Rattle.arcs.specs.Answers.{Told, answer, judged, arcFault}
+use Rattle.arcs.specs.Answers.{Told, answer, judged, arc_fault}
 use Rattle.arcs.proofs.Judged.{judged_hit, judged_none}
 use Rattle.bytes_loop.specs.Outcome.{Outcome, outcome, refusal_of}
 use Rattle.bytes_arcs.specs.Arcs.{arc_at, arc_judged, next_judged, ends_judged, number_of, value_bytes, leave}
@@ -57,7 +57,7 @@ module _ {f : ℕ} (a p : List ℕ) (n : ℕ) (e : f ≡ next_judged a p n) (z :
   none = sym e ∙ z
 
   pub arc_long : 72 ≤ length a
-  arc_long = omega (arith, size_right (length a) 72 (first_zero_lem (size_fault (length a) 72) (arcFault (arc_at a)) (first_zero_lem (arc_judged a) (size_fault (length p) n) none).0).0)
+  arc_long = omega (arith, size_right (length a) 72 (first_zero_lem (size_fault (length a) 72) (arc_fault (arc_at a)) (first_zero_lem (arc_judged a) (size_fault (length p) n) none).0).0)
 
   pub next_long : n ≤ length p
   next_long = omega (arith, size_right (length p) n (first_zero_lem (arc_judged a) (size_fault (length p) n) none).1)

@@ -8,7 +8,7 @@ use Rattle.vec3.specs.declared.Vec3.{Vec3}
 use Rattle.wire.specs.Wire.{vec_of, vec_bytes}
 use Rattle.minor_arc.specs.declared.MinorArc.{MinorArc}
 use Rattle.minor_arc.specs.declared.Mode.{Mode}
-use Rattle.arcs.specs.Answers.{Told, refused, answer, judged, arcFault, newAnswer, oppositeAnswer, side_answer, containsAnswer, intersectionAnswer, relate_answer}
+use Rattle.arcs.specs.Answers.{Told, refused, answer, judged, arc_fault, new_answer, opposite_answer, side_answer, contains_answer, intersection_answer, relate_answer}
 use Rattle.bytes_loop.specs.Outcome.{Outcome, outcome, refusal_of, unsigned}
 use Rattle.bytes_loop.specs.Layout.{size_fault}
 
@@ -17,7 +17,7 @@ arc_at s = record { start = vec_of s 0; end = vec_of s 24; normal = vec_of s 48 
 
 -- ---- what is told, by the bytes
 abbrev pub arc_judged : List ℕ → ℕ
-arc_judged a = first (size_fault (length a) 72) (arcFault (arc_at a))
+arc_judged a = first (size_fault (length a) 72) (arc_fault (arc_at a))
 
 -- of an arc, and then of the length of what comes after it
 abbrev pub next_judged : List ℕ → List ℕ → ℕ → ℕ
@@ -27,20 +27,20 @@ abbrev pub ends_judged : List ℕ → List ℕ → ℕ
 ends_judged s e = first (size_fault (length s) 24) (size_fault (length e) 24)
 
 abbrev pub arc_told : List ℕ → List ℕ → Told
-arc_told s e = judged (ends_judged s e) (newAnswer (vec_of s 0) (vec_of e 0))
+arc_told s e = judged (ends_judged s e) (new_answer (vec_of s 0) (vec_of e 0))
 
 abbrev pub opposite_told : List ℕ → Told
-opposite_told a = judged (size_fault (length a) 72) (oppositeAnswer (arc_at a))
+opposite_told a = judged (size_fault (length a) 72) (opposite_answer (arc_at a))
 
 abbrev pub side_told : List ℕ → List ℕ → Told
 side_told a p = judged (next_judged a p 24) (side_answer (arc_at a) (vec_of p 0))
 
 abbrev pub contains_told : List ℕ → List ℕ → Told
-contains_told a p = judged (next_judged a p 24) (containsAnswer (arc_at a) (vec_of p 0))
+contains_told a p = judged (next_judged a p 24) (contains_answer (arc_at a) (vec_of p 0))
 
 -- SCOPE 55: these two take the mode
 abbrev pub intersection_told : Mode → List ℕ → List ℕ → Told
-intersection_told mode a b = judged (next_judged a b 72) (intersectionAnswer mode (arc_at a) (arc_at b))
+intersection_told mode a b = judged (next_judged a b 72) (intersection_answer mode (arc_at a) (arc_at b))
 
 abbrev pub relate_told : Mode → List ℕ → List ℕ → Told
 relate_told mode a b = judged (next_judged a b 72) (relate_answer mode (arc_at a) (arc_at b))

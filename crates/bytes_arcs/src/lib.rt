@@ -54,7 +54,7 @@ fn ends_judged(start: &[u8], end: &[u8]) -> u8
 
 // What an answer without values comes to; a side's code has no sign here.
 fn sided(s: Sided) -> u32
-    ensures { result ≡ Arcs.number_of (Answers.toldSided s) }
+    ensures { result ≡ Arcs.number_of (Answers.told_sided s) }
 {
     match s {
         Sided::Refused(f) => refusal(f),
@@ -65,7 +65,7 @@ fn sided(s: Sided) -> u32
 }
 
 fn held(c: Contained) -> u32
-    ensures { result ≡ Arcs.number_of (Answers.toldContained c) }
+    ensures { result ≡ Arcs.number_of (Answers.told_contained c) }
 {
     match c {
         Contained::Refused(f) => refusal(f),
@@ -98,7 +98,7 @@ fn leave_arc(out: &mut [u8], number: u32, a: MinorArc) -> u32
 }
 
 fn leave_made(out: &mut [u8], m: ArcMade) -> u32
-    ensures { outcome result out.new ≡ Arcs.leave (Answers.toldMade m) out.old }
+    ensures { outcome result out.new ≡ Arcs.leave (Answers.told_made m) out.old }
 {
     match m {
         ArcMade::Refused(f) => refusal(f),
@@ -107,7 +107,7 @@ fn leave_made(out: &mut [u8], m: ArcMade) -> u32
 }
 
 fn leave_met(out: &mut [u8], m: Met) -> u32
-    ensures { outcome result out.new ≡ Arcs.leave (Answers.toldMet m) out.old }
+    ensures { outcome result out.new ≡ Arcs.leave (Answers.told_met m) out.old }
 {
     match m {
         Met::Refused(f) => refusal(f),

@@ -21,7 +21,7 @@ pub enum Question {
 }
 
 pub fn placed(p: Placed) -> u32
-    ensures { result ≡ As.number_of (An.toldPlaced p) }
+    ensures { result ≡ As.number_of (An.told_placed p) }
 {
     match p {
         Placed::Refused(f) => refusal(f),
@@ -32,7 +32,7 @@ pub fn placed(p: Placed) -> u32
 }
 
 pub fn answered(a: Answered) -> u32
-    ensures { result ≡ As.number_of (An.toldAnswered a) }
+    ensures { result ≡ As.number_of (An.told_answered a) }
 {
     match a {
         Answered::Refused(f) => refusal(f),

@@ -8,6 +8,6 @@ use Rattle.exact_angles.proofs.Plane.{near_angle}
 
 pub answers : Answers
 answers = record {
-  atan2-near = λ κs a r v e. subst (λ (z : Float). NearAngle a.0 a.1.0 z) (sym e) (near_angle a.0 a.1.0);
-  between-near = λ κs a r v e. subst (λ (z : Angle). NearAngle a.0 a.1.0 z.0) (sym e) (near_angle a.0 a.1.0);
+  atan2_near = λ κs a r v e. subst (λ (z : Float). NearAngle a.0 a.1.0 z) (sym e) (near_angle a.0 a.1.0);
+  between_near = λ κs a r v e. subst (λ (z : Angle). NearAngle a.0 a.1.0 z.0) (sym e) (near_angle a.0 a.1.0);
 }

@@ -6,5 +6,5 @@ use Rattle.angle.proofs.Angle.between as Between
 use Rattle.exact_angles.specs.Exact.{NearAngle}
 
 pub record Answers : Type 0 where
-  pub atan2-near : EachAnswer Atan2.Kinds.ps Atan2.Kinds.r Atan2.Reads.Post (λ κs a r. NearAngle a.0 a.1.0 r)
-  pub between-near : EachAnswer Between.Kinds.ps Between.Kinds.r Between.Reads.Post (λ κs a r. NearAngle a.0 a.1.0 r.0)
+  pub atan2_near : EachAnswer Atan2.Kinds.ps Atan2.Kinds.r Atan2.Reads.Post (λ κs a r. NearAngle a.0 a.1.0 r)
+  pub between_near : EachAnswer Between.Kinds.ps Between.Kinds.r Between.Reads.Post (λ κs a r. NearAngle a.0 a.1.0 r.0)

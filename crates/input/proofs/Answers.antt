@@ -53,6 +53,6 @@ counted n (negsuc k) h = omega arith
 pub within : (n : ℕ) (l : List ℕ) → n ≤ length l → Within (Read n) l
 within n l h = (h, sym (length-take-le n l h))
 
-pub ended-within : (z : ℤ) (done : ℕ) (l : List ℕ) → done ≤ length l → Within (ended_of z done) l
-ended-within (pos k) done l h = within done l h
-ended-within (negsuc k) done l h = tt
+pub ended_within : (z : ℤ) (done : ℕ) (l : List ℕ) → done ≤ length l → Within (ended_of z done) l
+ended_within (pos k) done l h = within done l h
+ended_within (negsuc k) done l h = tt

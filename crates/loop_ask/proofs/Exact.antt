@@ -15,7 +15,7 @@ use Rattle.loop_header.specs.Why.{LoopWhy}
 use Rattle.loop_header.proofs.Exact as Header
 use Rattle.ring_edges.specs.Edges.{on_edge, has_vertex}
 use Rattle.ring_shape.specs.Shapes.{convex, simple}
-use Rattle.loop_ask.specs.Answers.{Told, refused, answer, boolTold, judged}
+use Rattle.loop_ask.specs.Answers.{Told, refused, answer, bool_told, judged}
 use Rattle.loop_ask.specs.Questions.{query_fault, pair_fault, place_answer, vertex_answer, on_edge_answer, convex_answer, simple_answer, equivalent_loops, equivalent_answer}
 use Rattle.loop_ask.specs.Why.{QueryWhy, PairWhy, Exact}
 
@@ -24,14 +24,14 @@ abbrev number : Told → ℕ
 number (refused k) = suc k
 number (answer n) = 0
 
-bool_answers : (b : Bool) → number (boolTold b) ≡ 0
+bool_answers : (b : Bool) → number (bool_told b) ≡ 0
 bool_answers true = refl
 bool_answers false = refl
 
 pub judged_exact : {given : ℕ} {Why : ℕ → Type 0} → Exactly given Why → (n : ℕ) → Refuses refused (judged given (answer n)) Why
 judged_exact x n = refuses refused number (λ k. refl) x (λ z. rw z) (λ k e. rw e)
 
-pub asked_exact : {given : ℕ} {Why : ℕ → Type 0} → Exactly given Why → (b : Bool) → Refuses refused (judged given (boolTold b)) Why
+pub asked_exact : {given : ℕ} {Why : ℕ → Type 0} → Exactly given Why → (b : Bool) → Refuses refused (judged given (bool_told b)) Why
 asked_exact x b = refuses refused number (λ k. refl) x (λ z. rw z (bool_answers b)) (λ k e. rw e)
 
 module _ (h : Header) (ps ns : List Float) (cs : List ℕ) where

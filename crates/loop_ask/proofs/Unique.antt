@@ -7,7 +7,7 @@ use Rattle.loop_ask.specs.declared.Placed.{Placed}
 use Rattle.loop_ask.specs.declared.Placed.TheVariants as Placed
 use Rattle.loop_ask.specs.declared.Answered.{Answered}
 use Rattle.loop_ask.specs.declared.Answered.TheVariants as Answered
-use Rattle.loop_ask.specs.Answers.{Told, refused, answer, toldPlaced, toldAnswered}
+use Rattle.loop_ask.specs.Answers.{Told, refused, answer, told_placed, told_answered}
 use Rattle.loop_ask.proofs.contains_position as Place
 use Rattle.loop_ask.proofs.has_vertex as Vertex
 use Rattle.loop_ask.proofs.any_edge_contains_position as OnEdge
@@ -22,7 +22,7 @@ back_placed (answer zero) = Placed.Outside
 back_placed (answer (suc zero)) = Placed.Inside
 back_placed (answer (suc (suc n))) = Placed.Mute
 
-placed_back : (x : Placed) → back_placed (toldPlaced x) ≡ x
+placed_back : (x : Placed) → back_placed (told_placed x) ≡ x
 unfolding back_placed
 placed_back (Placed.Refused k) = refl
 placed_back Placed.Outside = refl
@@ -34,17 +34,17 @@ back_answered (refused k) = Answered.Refused k
 back_answered (answer zero) = Answered.No
 back_answered (answer (suc n)) = Answered.Yes
 
-answered_back : (x : Answered) → back_answered (toldAnswered x) ≡ x
+answered_back : (x : Answered) → back_answered (told_answered x) ≡ x
 unfolding back_answered
 answered_back (Answered.Refused k) = refl
 answered_back Answered.No = refl
 answered_back Answered.Yes = refl
 
-pub one_placed : OneToOne toldPlaced
-one_placed = by_back toldPlaced back_placed placed_back
+pub one_placed : OneToOne told_placed
+one_placed = by_back told_placed back_placed placed_back
 
-pub one_answered : OneToOne toldAnswered
-one_answered = by_back toldAnswered back_answered answered_back
+pub one_answered : OneToOne told_answered
+one_answered = by_back told_answered back_answered answered_back
 
 -- ---- nothing is lent to be written, so the answer is all
 pub contains_position_unique : One Place.Kinds.ps Place.Kinds.r Place.Reads.Post

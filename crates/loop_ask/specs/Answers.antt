@@ -10,20 +10,20 @@ pub data Told : Type 0 where
   refused : ℕ → Told
   answer : ℕ → Told
 
-abbrev pub toldPlaced : Placed → Told
-toldPlaced (Placed.Refused k) = refused k
-toldPlaced Placed.Outside = answer 0
-toldPlaced Placed.Inside = answer 1
-toldPlaced Placed.Mute = answer 2
+abbrev pub told_placed : Placed → Told
+told_placed (Placed.Refused k) = refused k
+told_placed Placed.Outside = answer 0
+told_placed Placed.Inside = answer 1
+told_placed Placed.Mute = answer 2
 
-abbrev pub toldAnswered : Answered → Told
-toldAnswered (Answered.Refused k) = refused k
-toldAnswered Answered.No = answer 0
-toldAnswered Answered.Yes = answer 1
+abbrev pub told_answered : Answered → Told
+told_answered (Answered.Refused k) = refused k
+told_answered Answered.No = answer 0
+told_answered Answered.Yes = answer 1
 
-abbrev pub boolTold : Bool → Told
-boolTold false = answer 0
-boolTold true = answer 1
+abbrev pub bool_told : Bool → Told
+bool_told false = answer 0
+bool_told true = answer 1
 
 -- the refusal, or what there is to tell
 abbrev pub judged : ℕ → Told → Told

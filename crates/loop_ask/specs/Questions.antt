@@ -12,7 +12,7 @@ use Rattle.loop_header.specs.declared.State.TheVariants.{Empty, Full, Ring}
 use Rattle.loop_header.specs.Loops.{loop_fault}
 use Rattle.ring_edges.specs.Edges.{on_edge, has_vertex}
 use Rattle.ring_shape.specs.Shapes.{convex, simple, same_rings}
-use Rattle.loop_ask.specs.Answers.{Told, answer, boolTold, judged}
+use Rattle.loop_ask.specs.Answers.{Told, answer, bool_told, judged}
 use Rattle.loop_ask.specs.Places.{place_of}
 
 unfoldable pub query_fault : Header → List Float → List Float → List ℕ → Vec3 → ℕ
@@ -22,17 +22,17 @@ unfoldable pub place_answer : Header → List Float → List Float → List ℕ 
 place_answer h ps ns cs p = judged (query_fault h ps ns cs (cleared p)) (answer (place_of h ps ns (cleared p)))
 
 unfoldable pub vertex_answer : Header → List Float → List Float → List ℕ → Vec3 → Told
-vertex_answer h ps ns cs p = judged (query_fault h ps ns cs (cleared p)) (boolTold (has_vertex ps h.count (cleared p)))
+vertex_answer h ps ns cs p = judged (query_fault h ps ns cs (cleared p)) (bool_told (has_vertex ps h.count (cleared p)))
 
 unfoldable pub on_edge_answer : Header → List Float → List Float → List ℕ → Vec3 → Told
-on_edge_answer h ps ns cs p = judged (query_fault h ps ns cs (cleared p)) (boolTold (on_edge ps ns h.count (cleared p)))
+on_edge_answer h ps ns cs p = judged (query_fault h ps ns cs (cleared p)) (bool_told (on_edge ps ns h.count (cleared p)))
 
 unfoldable pub convex_answer : Header → List Float → List Float → List ℕ → Told
-convex_answer h ps ns cs = judged (loop_fault h ps ns cs) (boolTold (convex ps h.count))
+convex_answer h ps ns cs = judged (loop_fault h ps ns cs) (bool_told (convex ps h.count))
 
 -- SCOPE 55: the edges are arcs of the loop's mode
 unfoldable pub simple_answer : Header → List Float → List Float → List ℕ → Told
-simple_answer h ps ns cs = judged (loop_fault h ps ns cs) (boolTold (simple h.mode ps ns h.count))
+simple_answer h ps ns cs = judged (loop_fault h ps ns cs) (bool_told (simple h.mode ps ns h.count))
 
 -- SCOPE 26: refusals 1 to 4 and 6 of a first loop all come before those of a second
 unfoldable pub pair_fault : Header → List Float → List Float → List ℕ → Header → List Float → List Float → List ℕ → ℕ
@@ -58,4 +58,4 @@ equivalent_loops h ps cs o qs ds =
     (if eqb h.count 0 then beq (full_state h.state) (full_state o.state) else same_rings ps cs qs ds h.count)
 
 unfoldable pub equivalent_answer : Header → List Float → List Float → List ℕ → Header → List Float → List Float → List ℕ → Told
-equivalent_answer h ps ns cs o qs ms ds = judged (pair_fault h ps ns cs o qs ms ds) (boolTold (equivalent_loops h ps cs o qs ds))
+equivalent_answer h ps ns cs o qs ms ds = judged (pair_fault h ps ns cs o qs ms ds) (bool_told (equivalent_loops h ps cs o qs ds))

@@ -39,7 +39,7 @@ pub fn cleared_cap(c: Cap) -> Cap
 }
 
 fn tell_place(inside: bool) -> Placed
-    ensures { An.toldPlaced result ≡ An.answer (P.inside_code inside) }
+    ensures { An.told_placed result ≡ An.answer (P.inside_code inside) }
 {
     if inside {
         Placed::Inside
@@ -49,7 +49,7 @@ fn tell_place(inside: bool) -> Placed
 }
 
 pub fn tell(yes: bool) -> Answered
-    ensures { An.toldAnswered result ≡ An.boolTold yes }
+    ensures { An.told_answered result ≡ An.bool_told yes }
 {
     if yes { Answered::Yes } else { Answered::No }
 }
@@ -57,7 +57,7 @@ pub fn tell(yes: bool) -> Answered
 // Without insides: three corners by their sides, more are mute, and none lie in the full loop alone.
 fn place_without(h: Header, positions: &[f64], normals: &[f64], p: Vec3) -> Placed
     requires { (3 * h.count ≤ length positions.now) × (3 * h.count ≤ length normals.now) }
-    ensures { An.toldPlaced result ≡ An.answer (P.place_without h positions.now normals.now p) }
+    ensures { An.told_placed result ≡ An.answer (P.place_without h positions.now normals.now p) }
 {
     if h.count == 3 {
         return tell_place(ring_place::in_triangle(positions, normals, p));
@@ -95,7 +95,7 @@ fn inside_with(h: Header, a: Vec3, b: Vec3, positions: &[f64], normals: &[f64], 
 // The place of a position against a loop that was judged.
 pub fn place(h: Header, positions: &[f64], normals: &[f64], p: Vec3) -> Placed
     requires { (h.count ≤ 512) × (3 * h.count ≤ length positions.now) × (3 * h.count ≤ length normals.now) }
-    ensures { An.toldPlaced result ≡ An.answer (P.place_of h positions.now normals.now p) }
+    ensures { An.told_placed result ≡ An.answer (P.place_of h positions.now normals.now p) }
 {
     let insides = h.insides;
     match insides {
@@ -122,7 +122,7 @@ pub fn contains_position(
     classes: &[u8],
     p: Vec3,
 ) -> Placed
-    ensures { An.toldPlaced result ≡ Q.place_answer h positions.now normals.now classes.now p }
+    ensures { An.told_placed result ≡ Q.place_answer h positions.now normals.now classes.now p }
 {
     let q = p.clear();
     let f = query_fault(h, positions, normals, classes, q);
@@ -140,7 +140,7 @@ pub fn has_vertex(
     classes: &[u8],
     p: Vec3,
 ) -> Answered
-    ensures { An.toldAnswered result ≡ Q.vertex_answer h positions.now normals.now classes.now p }
+    ensures { An.told_answered result ≡ Q.vertex_answer h positions.now normals.now classes.now p }
 {
     let q = p.clear();
     let f = query_fault(h, positions, normals, classes, q);
@@ -158,7 +158,7 @@ pub fn any_edge_contains_position(
     classes: &[u8],
     p: Vec3,
 ) -> Answered
-    ensures { An.toldAnswered result ≡ Q.on_edge_answer h positions.now normals.now classes.now p }
+    ensures { An.told_answered result ≡ Q.on_edge_answer h positions.now normals.now classes.now p }
 {
     let q = p.clear();
     let f = query_fault(h, positions, normals, classes, q);
@@ -170,7 +170,7 @@ pub fn any_edge_contains_position(
 
 // Whether a loop is convex.
 pub fn is_convex(h: Header, positions: &[f64], normals: &[f64], classes: &[u8]) -> Answered
-    ensures { An.toldAnswered result ≡ Q.convex_answer h positions.now normals.now classes.now }
+    ensures { An.told_answered result ≡ Q.convex_answer h positions.now normals.now classes.now }
 {
     let f = loop_header::loop_fault(h, positions, normals, classes);
     if f != 0 {
@@ -181,7 +181,7 @@ pub fn is_convex(h: Header, positions: &[f64], normals: &[f64], classes: &[u8]) 
 
 // Whether a loop is simple.
 pub fn is_simple(h: Header, positions: &[f64], normals: &[f64], classes: &[u8]) -> Answered
-    ensures { An.toldAnswered result ≡ Q.simple_answer h positions.now normals.now classes.now }
+    ensures { An.told_answered result ≡ Q.simple_answer h positions.now normals.now classes.now }
 {
     let f = loop_header::loop_fault(h, positions, normals, classes);
     if f != 0 {
@@ -254,7 +254,7 @@ pub fn is_equivalent(
     theirs: &[f64],
     codes: &[u8],
 ) -> Answered
-    ensures { An.toldAnswered result ≡ Q.equivalent_answer h positions.now normals.now classes.now o others.now theirs.now codes.now }
+    ensures { An.told_answered result ≡ Q.equivalent_answer h positions.now normals.now classes.now o others.now theirs.now codes.now }
 {
     let f = pair_fault(h, positions, normals, classes, o, others, theirs, codes);
     if f != 0 {

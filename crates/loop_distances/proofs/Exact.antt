@@ -5,7 +5,7 @@ use Rattle.vec3.specs.Vec.{cleared}
 use Rattle.judge.specs.Why.{Exactly, Refuses}
 use Rattle.judge.proofs.Exactly.{refuses}
 use Rattle.chord_length.specs.declared.ChordLength.{ChordLength}
-use Rattle.arcs.specs.Answers.{clearedArc}
+use Rattle.arcs.specs.Answers.{cleared_arc}
 use Rattle.arcs.proofs.Exact as Arcs
 use Rattle.loop_ask.proofs.Exact as Loops
 use Rattle.loop_distances.specs.Distances.{Told, refused, chord, judged, arc_told, boundary_told}
@@ -22,6 +22,6 @@ judged_exact x c = refuses refused number (λ k. refl) x (λ z. rw z) (λ k e. r
 pub exact : Exact
 unfolding arc_told boundary_told
 exact = record {
-  arc = λ a p. judged_exact (Arcs.query_exact (clearedArc a) (cleared p)) _;
+  arc = λ a p. judged_exact (Arcs.query_exact (cleared_arc a) (cleared p)) _;
   boundary = λ h ps ns cs p. judged_exact (Loops.query_exact h ps ns cs (cleared p)) _;
 }

@@ -16,7 +16,7 @@ use Rattle.vec3.specs.declared.Vec3.{Vec3}
 use Rattle.vec3.specs.Vec.{cleared}
 use Rattle.chord_length.specs.declared.ChordLength.{ChordLength}
 use Rattle.chord_length.specs.Chords.{squared, most, least}
-use Rattle.arcs.specs.Answers.{clearedArc}
+use Rattle.arcs.specs.Answers.{cleared_arc}
 use Rattle.arcs.specs.Answers as Arcs
 use Rattle.ring_edges.specs.Edges.{edge_at}
 use Rattle.loop_ask.specs.Questions.{query_fault}
@@ -144,7 +144,7 @@ distances = record {
   of_ring = λ ps ns n p. chordal (far_ring ps ns n p) (ring_within ps ns n p);
   least_of_lem = ring_least;
   no_other = λ ps ns n p c l. only_least (far_edge ps ns n p) (λ i. far_within (edge_at ps ns n i) p) n c (far_ring ps ns n p) l (ring_least ps ns n p);
-  arc_answers = λ a p c e. chordal c (told_within (Arcs.query_fault (clearedArc a) (cleared p)) (far_arc (clearedArc a) (cleared p)) c (far_within (clearedArc a) (cleared p)) e);
+  arc_answers = λ a p c e. chordal c (told_within (Arcs.query_fault (cleared_arc a) (cleared p)) (far_arc (cleared_arc a) (cleared p)) c (far_within (cleared_arc a) (cleared p)) e);
   loop_answers = λ h ps ns cs p c e.
       chordal c (told_within (query_fault h ps ns cs (cleared p)) (far ps ns h.count (cleared p)) c (loop_within ps ns h.count (cleared p)) e);
 }

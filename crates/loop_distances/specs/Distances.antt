@@ -12,7 +12,7 @@ use Rattle.chord_length.specs.Chords.{squared, most, least}
 use Rattle.chord_length.specs.Chords as Chords
 use Rattle.minor_arc.specs.declared.MinorArc.{MinorArc}
 use Rattle.minor_arc.specs.Arcs.{within, location_of}
-use Rattle.arcs.specs.Answers.{clearedArc}
+use Rattle.arcs.specs.Answers.{cleared_arc}
 use Rattle.arcs.specs.Answers as Arcs
 use Rattle.ring_edges.specs.Edges.{edge_at}
 use Rattle.loop_header.specs.declared.Header.{Header}
@@ -78,7 +78,7 @@ unfoldable pub arc_told : MinorArc → Vec3 → Told
 arc_told a p = judged (Arcs.query_fault a p) (far_arc a p)
 
 abbrev pub arc_answer : MinorArc → Vec3 → Told
-arc_answer a p = arc_told (clearedArc a) (cleared p)
+arc_answer a p = arc_told (cleared_arc a) (cleared p)
 
 -- a loop's refusals, and then the position's
 unfoldable pub boundary_told : Header → List Float → List Float → List ℕ → Vec3 → Told

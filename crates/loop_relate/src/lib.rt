@@ -63,7 +63,7 @@ fn caps_meet(mode: Mode, one: Cap, other: Cap) -> bool
 
 // A mute loop contains nothing, as in the source.
 fn is_inside(p: Placed) -> bool
-    ensures { result ≡ Rel.is_inside (An.toldPlaced p) }
+    ensures { result ≡ Rel.is_inside (An.told_placed p) }
 {
     match p {
         Placed::Refused(_) => false,

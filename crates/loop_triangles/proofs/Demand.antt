@@ -17,13 +17,13 @@ use Rattle.ring_check.proofs.Theorems.{demand}
 use Rattle.loop_header.specs.declared.Header.{Header}
 use Rattle.loop_header.specs.declared.State.TheVariants.{Ring}
 use Rattle.loop_header.specs.Loops.{shape_fault, ring_fault, cut_fault, check_fault}
-use Rattle.loop_ask.specs.Answers.{refused, answer, boolTold, judged}
+use Rattle.loop_ask.specs.Answers.{refused, answer, bool_told, judged}
 use Rattle.loop_triangles.specs.Triangles.{Outcome, outcome, laid, ring_outcome, triangulate_outcome, accepts_answer}
 use Rattle.loop_triangles.specs.Demand.{Cuttable, OwnList, Cutting, stuck, through, Ears, Demand}
 use Rattle.loop_triangles.proofs.Outs.{check_ring, cut_ring}
 
 -- ---- the checker
-yes_judged : (k : ℕ) (b : Bool) → judged k (boolTold b) ≡ answer 1 → (k ≡ 0) × (b ≡ true)
+yes_judged : (k : ℕ) (b : Bool) → judged k (bool_told b) ≡ answer 1 → (k ≡ 0) × (b ≡ true)
 yes_judged zero true e = (refl, refl)
 yes_judged zero false e = let z : ◌≡◌ {A = ℕ} 0 1 = cc in absurd (omega arith)
 yes_judged (suc k) b e = let z : ◌≡◌ {A = ℕ} 0 1 = cc in absurd (omega arith)

@@ -7,7 +7,7 @@ use Rattle.loop_header.specs.declared.State.{State}
 use Rattle.loop_header.specs.declared.State.TheVariants.{Empty, Full, Ring}
 use Rattle.loop_header.specs.declared.Header.{Header}
 use Rattle.loop_header.specs.Loops.{cut_fault, check_fault}
-use Rattle.loop_ask.specs.Answers.{Told, refused, answer, boolTold, judged}
+use Rattle.loop_ask.specs.Answers.{Told, refused, answer, bool_told, judged}
 use Rattle.loop_triangles.specs.declared.Cut.{Cut}
 use Rattle.loop_triangles.specs.declared.Cut.TheVariants.{Refused, Triangles}
 
@@ -58,4 +58,4 @@ triangulate_outcome h ps cs tris = outcome_by (cut_fault h ps cs) tris (state_ou
 
 -- SCOPE 20: the checker says yes exactly for accepted lists
 unfoldable pub accepts_answer : Header → List Float → List ℕ → List ℕ → Told
-accepts_answer h ps cs tris = judged (check_fault h ps cs (length tris)) (boolTold (accepted ps cs tris))
+accepts_answer h ps cs tris = judged (check_fault h ps cs (length tris)) (bool_told (accepted ps cs tris))

@@ -60,7 +60,7 @@ pub fn triangulate(h: Header, positions: &[f64], classes: &[u8], triangles: &mut
 
 // Whether a list of triples cuts a ring.
 pub fn accepts(h: Header, positions: &[f64], classes: &[u8], triangles: &[u16]) -> Answered
-    ensures { An.toldAnswered result ≡ Tri.accepts_answer h positions.now classes.now triangles.now }
+    ensures { An.told_answered result ≡ Tri.accepts_answer h positions.now classes.now triangles.now }
 {
     let f = loop_header::check_fault(h, positions, classes, triangles.len());
     if f != 0 {

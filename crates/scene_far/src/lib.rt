@@ -2,7 +2,7 @@
 #![tactic(auto)]
 
 ghost use Rattle.std.specs.Prelude.{◌≡◌};
-ghost use Rattle.loop_ask.specs.Answers.{toldPlaced};
+ghost use Rattle.loop_ask.specs.Answers.{told_placed};
 ghost use Rattle.loop_distances.specs.Distances.{told_distance};
 ghost use Rattle.scene_store.specs.Store as St;
 ghost use Rattle.scene_far.specs.Far as F;
@@ -40,7 +40,7 @@ fn far_in(a: Area, positions: &[f64], normals: &[f64], classes: &[u8], p: Vec3) 
 
 // The line of a place, by its answer's number.
 fn place_said(number: usize, placed: Placed) -> Said
-    ensures { result ≡ F.place_said number (toldPlaced placed) }
+    ensures { result ≡ F.place_said number (told_placed placed) }
 {
     match placed {
         Placed::Refused(k) => Said::Refused(k),

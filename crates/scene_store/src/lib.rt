@@ -3,7 +3,7 @@
 
 ghost use Rattle.std.specs.Prelude.{◌≡◌, ◌+◌, ◌*◌, ◌≤◌, length};
 ghost use Rattle.loop_build.specs.Build as B;
-ghost use Rattle.loop_ask.specs.Answers.{toldPlaced};
+ghost use Rattle.loop_ask.specs.Answers.{told_placed};
 ghost use Rattle.loop_relate.specs.Relations.{told_related};
 ghost use Rattle.loop_triangles.specs.Triangles.{told_cut};
 ghost use Rattle.scene_records.specs.Records.{floats_at};
@@ -91,7 +91,7 @@ fn counted(cut: Cut) -> usize
 
 pub fn place_in(a: Area, positions: &[f64], normals: &[f64], classes: &[u8], p: Vec3) -> Placed
     requires { St.Lies a positions.now normals.now classes.now }
-    ensures { toldPlaced result ≡ St.place_in a positions.now normals.now classes.now p }
+    ensures { told_placed result ≡ St.place_in a positions.now normals.now classes.now p }
 {
     let start = a.start;
     let h = a.header;

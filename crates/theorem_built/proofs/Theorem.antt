@@ -30,7 +30,7 @@ use Rattle.loop_header.specs.declared.State.TheVariants.{Empty, Full, Ring}
 use Rattle.loop_header.specs.declared.Header.{Header}
 use Rattle.loop_header.specs.Loops.{count_fits, threes_of, shape_fault, ring_fault, vectors_fault, ring_only, cut_fault, check_fault, loop_fault}
 use Rattle.loop_header.proofs.Sounds.{sound}
-use Rattle.loop_ask.specs.Answers.{Told, refused, answer, boolTold}
+use Rattle.loop_ask.specs.Answers.{Told, refused, answer, bool_told}
 use Rattle.loop_ask.specs.Places.{inside_code, place_no_corner, place_without, place_by, place_of, inside_with}
 use Rattle.loop_ask.specs.Questions as Q
 use Rattle.loop_ask.specs.Questions.{query_fault, pair_fault, equivalent_loops}
@@ -52,9 +52,9 @@ use Rattle.theorem_built.proofs.Whole.{some, whole, stored_mode}
 told : (m k : ℕ) → k ≤ m → Answers m (answer k)
 told m k h = record { number = k; most = h; is = refl }
 
-bool_told : (b : Bool) → Answers 1 (boolTold b)
-bool_told false = told 1 0 (omega arith)
-bool_told true = told 1 1 (omega arith)
+bool_told_lem : (b : Bool) → Answers 1 (bool_told b)
+bool_told_lem false = told 1 0 (omega arith)
+bool_told_lem true = told 1 1 (omega arith)
 
 inside_most : (b : Bool) → inside_code b ≤ 2
 inside_most true = omega arith
@@ -89,11 +89,11 @@ module _ (h : Header) (ps ns : List Float) (cs : List ℕ) (f : loop_fault h ps 
 
     vertex : Answers 1 (Q.vertex_answer h ps ns cs p)
     unfolding Q.vertex_answer
-    vertex = rw asked (bool_told (has_vertex ps h.count (cleared p)))
+    vertex = rw asked (bool_told_lem (has_vertex ps h.count (cleared p)))
 
     on_edge_lem : Answers 1 (Q.on_edge_answer h ps ns cs p)
     unfolding Q.on_edge_answer
-    on_edge_lem = rw asked (bool_told (on_edge ps ns h.count (cleared p)))
+    on_edge_lem = rw asked (bool_told_lem (on_edge ps ns h.count (cleared p)))
 
     distance : boundary_answer h ps ns cs p ≡ chord (far ps ns h.count (cleared p))
     unfolding boundary_told
@@ -101,11 +101,11 @@ module _ (h : Header) (ps ns : List Float) (cs : List ℕ) (f : loop_fault h ps 
 
   convex : Answers 1 (Q.convex_answer h ps ns cs)
   unfolding Q.convex_answer
-  convex = rw f (bool_told (S.convex ps h.count))
+  convex = rw f (bool_told_lem (S.convex ps h.count))
 
   simple : Answers 1 (Q.simple_answer h ps ns cs)
   unfolding Q.simple_answer
-  simple = rw f (bool_told (S.simple h.mode ps ns h.count))
+  simple = rw f (bool_told_lem (S.simple h.mode ps ns h.count))
 
   fits : count_fits h.state h.count ≡ true
   fits = (sound h ps ns cs f).ring.shaped.fits
@@ -175,7 +175,7 @@ module _ (h : Header) (ps ns : List Float) (cs : List ℕ) (f : loop_fault h ps 
     unfolding accepts_answer
     checked t Empty s = rw (check_is t, s)
     checked t Full s = rw (check_is t, s)
-    checked t Ring s = rw (check_is t, s) (bool_told (accepted ps cs tris))
+    checked t Ring s = rw (check_is t, s) (bool_told_lem (accepted ps cs tris))
 
 -- ---- two loops
 -- a loop with no corner lies in none
@@ -195,7 +195,7 @@ module _ (h : Header) (ps ns : List Float) (cs : List ℕ) (o : Header) (qs ms :
 
   equivalent : Answers 1 (Q.equivalent_answer h ps ns cs o qs ms ds)
   unfolding Q.equivalent_answer
-  equivalent = rw both (bool_told (equivalent_loops h ps cs o qs ds))
+  equivalent = rw both (bool_told_lem (equivalent_loops h ps cs o qs ds))
 
   seven : relate_answer h ps ns cs o qs ms ds ≡ refused 7 → Related h o (relate_answer h ps ns cs o qs ms ds)
   seven e =

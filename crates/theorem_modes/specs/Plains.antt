@@ -16,7 +16,7 @@ use Rattle.minor_arc.specs.declared.Mode.TheVariants.{Plain}
 use Rattle.minor_arc.specs.Arcs.{arc_of, nearer, missed, meeting_in, meeting_of, meeting_point}
 use Rattle.arc_relations.specs.Relations.{collinear_of, settled, relation_of}
 use Rattle.arcs.specs.Answers as Arcs
-use Rattle.arcs.specs.Answers.{pointTold, relationTold, intersection_told, relate_told}
+use Rattle.arcs.specs.Answers.{point_told, relation_told, intersection_told, relate_told}
 use Rattle.ring_place.specs.declared.Crossings.{Crossings}
 use Rattle.ring_place.specs.Places.{passed, pass, start, crossed_evenly, from, inside_by}
 use Rattle.ring_shape.specs.Shapes.{is_there, any_without_circle, edges_meet, end_of, meets_later, any_meets_later, simple}
@@ -25,7 +25,7 @@ use Rattle.ring_pair.specs.Contacts.{is_crossing, is_touch, is_crossed, is_touch
 use Rattle.loop_header.specs.declared.Header.{Header}
 use Rattle.loop_header.specs.Loops.{loop_fault}
 use Rattle.loop_build.specs.Build as Build
-use Rattle.loop_ask.specs.Answers.{boolTold, judged}
+use Rattle.loop_ask.specs.Answers.{bool_told, judged}
 use Rattle.loop_ask.specs.Places.{cleared_cap, inside_code, inside_with, place_without, place_of}
 use Rattle.loop_ask.specs.Questions.{simple_answer, full_state, pair_fault, equivalent_loops}
 use Rattle.loop_relate.specs.Relations.{empty_state, edges_if, by_containment, lies_in, by_edges, disjoint_if, equal_if, by_caps, by_states, relate_answer, searched}
@@ -38,8 +38,8 @@ pub record OfArcs : Type 0 where
   pub plain_meeting : (a b : MinorArc)
       → meeting_of Plain a b ≡ (let i = stable_unit a.normal b.normal in if same i origin then Collinear else meeting_in a b (nearer a.start i))
   pub plain_relation : (a b : MinorArc) → relation_of Plain a b ≡ settled (collinear_of a b) (meeting_of Plain a b)
-  pub plain_intersection : (a b : MinorArc) → intersection_told Plain a b ≡ Arcs.judged (Arcs.pair_fault a b) (pointTold (meeting_point (meeting_of Plain a b)))
-  pub plain_relate : (a b : MinorArc) → relate_told Plain a b ≡ Arcs.judged (Arcs.pair_fault a b) (relationTold (relation_of Plain a b))
+  pub plain_intersection : (a b : MinorArc) → intersection_told Plain a b ≡ Arcs.judged (Arcs.pair_fault a b) (point_told (meeting_point (meeting_of Plain a b)))
+  pub plain_relate : (a b : MinorArc) → relate_told Plain a b ≡ Arcs.judged (Arcs.pair_fault a b) (relation_told (relation_of Plain a b))
 
 -- ---- one ring: crates ring_place and ring_shape
 pub record OfRings : Type 0 where
@@ -72,7 +72,7 @@ pub record OfLoops (h : Header) (ps ns : List Float) (cs : List ℕ) : Type 0 wh
   pub plain_place : (a b p : Vec3) → h.insides ≡ Two a b
       → place_of h ps ns p ≡ inside_code (inside_by Plain (cleared_cap h.cap) (cleared a) (cleared b) ps ns h.count p)
   pub plain_place_without : (p : Vec3) → h.insides ≡ Absent → place_of h ps ns p ≡ place_without h ps ns p
-  pub plain_simple : simple_answer h ps ns cs ≡ judged (loop_fault h ps ns cs) (boolTold (simple Plain ps ns h.count))
+  pub plain_simple : simple_answer h ps ns cs ≡ judged (loop_fault h ps ns cs) (bool_told (simple Plain ps ns h.count))
   pub plain_by_edges : (o : Header) (qs ms : List Float)
       → by_edges h ps ns o qs ms
       ≡ (let k = contact_of Plain ps ns h.count qs ms o.count in edges_if (is_crossed k) (by_containment (is_touched k) (lies_in h ps o qs ms) (lies_in o qs h ps ns)))

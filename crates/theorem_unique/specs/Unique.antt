@@ -4,7 +4,7 @@
 use Rattle.outcomes.specs.Outcomes.{One, OneToOne}
 use Rattle.arcs.specs.Answers as Arcs
 use Rattle.loop_build.specs.Build as Build
-use Rattle.loop_ask.specs.Answers.{toldPlaced, toldAnswered}
+use Rattle.loop_ask.specs.Answers.{told_placed, told_answered}
 use Rattle.loop_distances.specs.Distances.{told_distance}
 use Rattle.loop_triangles.specs.Triangles.{told_cut}
 use Rattle.loop_relate.specs.Relations.{told_related}
@@ -68,14 +68,14 @@ use Rattle.test_probes.proofs.leaf_cap as LeafCap
 
 -- the definitions of the answers that are enums, each one-to-one
 pub record Definitions : Type 0 where
-  pub arc_made : OneToOne Arcs.toldMade
-  pub arc_sided : OneToOne Arcs.toldSided
-  pub arc_contained : OneToOne Arcs.toldContained
-  pub arc_met : OneToOne Arcs.toldMet
+  pub arc_made : OneToOne Arcs.told_made
+  pub arc_sided : OneToOne Arcs.told_sided
+  pub arc_contained : OneToOne Arcs.told_contained
+  pub arc_met : OneToOne Arcs.told_met
   pub arc_related : OneToOne Arcs.told_related
   pub built : OneToOne Build.told
-  pub placed : OneToOne toldPlaced
-  pub answered : OneToOne toldAnswered
+  pub placed : OneToOne told_placed
+  pub answered : OneToOne told_answered
   pub distance : OneToOne told_distance
   pub cut : OneToOne told_cut
   pub related : OneToOne told_related

@@ -11,7 +11,7 @@ use Rattle.vec3.specs.Vec.{axis_y, axis_z, opposite}
 use Rattle.chord_length.specs.Chords.{squared, most, from_squared_length, later_max, least}
 use Rattle.minor_arc.specs.declared.Mode.TheVariants.{Plain}
 use Rattle.minor_arc.specs.Arcs.{location_of}
-use Rattle.arcs.specs.Answers.{arcFault}
+use Rattle.arcs.specs.Answers.{arc_fault}
 use Rattle.ring_edges.specs.Edges.{edge_at}
 use Rattle.loop_build.specs.Build as Build
 use Rattle.loop_distances.specs.Distances.{nearer_end, past_end, by_foot, far_arc, far_ring, far, Told, refused, chord, arc_told, boundary_told}
@@ -29,7 +29,7 @@ told (chord c) = to_bits binary64 c.0
 
 -- ---- what a distance is computed with, from an arc and from a loop's border, and the radians
 unfoldable of_arcs : ℕ
-unfolding Computing.of_building Computing.of_sides location_of from_squared_length least by_foot far_arc arcFault arc_told arc_by to_bits
+unfolding Computing.of_building Computing.of_sides location_of from_squared_length least by_foot far_arc arc_fault arc_told arc_by to_bits
 of_arcs = 0
 
 unfoldable of_loops : ℕ

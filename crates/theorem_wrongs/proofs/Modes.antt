@@ -71,7 +71,7 @@ unfolding Computing.of_building flat u64_of floats_at bytes8 floats_bytes state_
 of_bytes = 0
 
 unfoldable of_answers : ℕ
-unfolding of_arcs Computing.of_judging Arcs.arcFault Arcs.relate_told Arcs.intersection_told to_bits
+unfolding of_arcs Computing.of_judging Arcs.arc_fault Arcs.relate_told Arcs.intersection_told to_bits
 of_answers = 0
 
 -- ---- arcs
@@ -79,7 +79,7 @@ start_side_alone : Arcs.relate_answer Long wide down ≡ Arcs.relate_answer Plai
 unfolding of_answers
 start_side_alone e = let n : ◌≡◌ {A = ℕ} 1 0 = ap arc_told_lem e in omega (arith, n)
 
-start_side_alone_met : Arcs.intersectionAnswer Long wide down ≡ Arcs.answer (pos 0) [] → ⊥
+start_side_alone_met : Arcs.intersection_answer Long wide down ≡ Arcs.answer (pos 0) [] → ⊥
 unfolding of_answers
 start_side_alone_met e = let n : ◌≡◌ {A = ℕ} 1 0 = ap arc_told_lem e in omega (arith, n)
 

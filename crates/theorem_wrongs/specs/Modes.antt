@@ -84,7 +84,7 @@ pub record OfModes : Type 0 where
   -- ---- meeting
   -- in long mode the point on the side of the first arc's start alone: disjoint, and no point; in plain mode both
   pub start_side_alone : Arcs.relate_answer Long wide down ≡ Arcs.relate_answer Plain wide down → ⊥
-  pub start_side_alone_met : Arcs.intersectionAnswer Long wide down ≡ Arcs.answer (pos 0) [] → ⊥
+  pub start_side_alone_met : Arcs.intersection_answer Long wide down ≡ Arcs.answer (pos 0) [] → ⊥
   pub both_in_plain_mode : paired Plain with_wide with_down ≡ answer 2 → ⊥
   -- the opposite point where both touch: the arcs share X, which is p, and -X
   pub opposite_reported : Arcs.relate_answer Long half_by_y half_by_minus_z ≡ Arcs.answer (pos 2) (opposite axis_x ∷ []) → ⊥

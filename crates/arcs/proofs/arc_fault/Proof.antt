@@ -1,9 +1,9 @@
-use Rattle.arcs.specs.Answers.{arcFault}
+use Rattle.arcs.specs.Answers.{arc_fault}
 use Rattle.arcs.proofs.arc_fault.Statement.{statement}
 use Rattle.arcs.proofs.arc_fault.Tie as tie
 
 pub arc_fault_spec : {M : Type 1} → statement M
-unfolding arcFault
+unfolding arc_fault
 arc_fault_spec =
     tie.close
     (tie.spec

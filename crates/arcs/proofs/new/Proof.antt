@@ -1,10 +1,10 @@
 use Rattle.arcs.proofs.Judged.{judged_hit, judged_none}
-use Rattle.arcs.specs.Answers.{newTold}
+use Rattle.arcs.specs.Answers.{new_told}
 use Rattle.arcs.proofs.new.Statement.{statement}
 use Rattle.arcs.proofs.new.Tie as tie
 
 pub new_spec : {M : Type 1} → statement M
-unfolding newTold
+unfolding new_told
 new_spec =
     tie.close
     (tie.spec

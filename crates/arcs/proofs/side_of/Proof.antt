@@ -1,10 +1,10 @@
 use Rattle.arcs.proofs.Judged.{judged_hit, judged_none}
-use Rattle.arcs.specs.Answers.{sideOfTold}
+use Rattle.arcs.specs.Answers.{side_of_told}
 use Rattle.arcs.proofs.side_of.Statement.{statement}
 use Rattle.arcs.proofs.side_of.Tie as tie
 
 pub side_of_spec : {M : Type 1} → statement M
-unfolding sideOfTold
+unfolding side_of_told
 side_of_spec =
     tie.close
     (tie.spec

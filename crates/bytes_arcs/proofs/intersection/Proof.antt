@@ -1,6 +1,6 @@
 -- `intersection`: the refusal of the two arcs' bytes, or what the two arcs as they are read come to, in the mode.
 use borrow.Author.Rules.{rules}
-use Rattle.arcs.specs.Answers.{intersectionAnswer}
+use Rattle.arcs.specs.Answers.{intersection_answer}
 use Rattle.bytes_arcs.specs.Arcs.{arc_at}
 use Rattle.bytes_arcs.proofs.Writes.{gone, went_on, arc_long, next_long}
 use Rattle.bytes_arcs.proofs.intersection.Statement.{statement}
@@ -11,7 +11,7 @@ returns c =
     let refused = c.before in
     let judged = refused.before in
     let a = judged.before.before.before.before.args in
-    gone (intersectionAnswer a.mode (arc_at a.a.now) (arc_at a.b.now)) judged.next_judged-f.ensures a.out.now refused.if-f-ne0.true c.refusal.ensures
+    gone (intersection_answer a.mode (arc_at a.a.now) (arc_at a.b.now)) judged.next_judged-f.ensures a.out.now refused.if-f-ne0.true c.refusal.ensures
 
 arc-at-requires : tie.Need-arc_at-requires
 arc-at-requires c κs =
@@ -36,7 +36,7 @@ returns-2 c =
     let fine = first.before.before in
     let judged = fine.before in
     let a = judged.before.before.before.before.args in
-    went_on (intersectionAnswer a.mode (arc_at a.a.now) (arc_at a.b.now)) judged.next_judged-f.ensures a.out.now fine.if-f-ne0.false
+    went_on (intersection_answer a.mode (arc_at a.a.now) (arc_at a.b.now)) judged.next_judged-f.ensures a.out.now fine.if-f-ne0.false
     (simp (first.arc_at.ensures, second.arc_at-2.ensures) at told.intersection.ensures) left.leave_met.ensures
 
 pub intersection_spec : {M : Type 1} → statement M

@@ -11,7 +11,7 @@ use native.Mathlib.Omega.{arith}
 use mir.Syntax.{w64}
 use mir.Val.{SFits, to_z, of_z}
 use borrow.Author.Rules.{rules}
-use Rattle.input.proofs.Answers.{read_back, counted, within, ended-within}
+use Rattle.input.proofs.Answers.{read_back, counted, within, ended_within}
 use Rattle.input.proofs.read.Statement.{statement}
 use Rattle.input.proofs.read.Tie as tie
 
@@ -40,7 +40,7 @@ returns : tie.Need-returns-then-n-eq0 invariant-loop decreases-loop
 returns c =
     let i = c.before.before.before.before.before in
     let l = i.before.before.before.loop-done in
-    subst (λ (r : Input). Within r i.read_from-got.new.buf) (sym c.ended.ensures) (ended-within (to_z w64 (of_z w64 i.read_from-got.result)) l.done i.read_from-got.new.buf (omega (arith, i.read_from-got.auto.buf, l.invariant.1)))
+    subst (λ (r : Input). Within r i.read_from-got.new.buf) (sym c.ended.ensures) (ended_within (to_z w64 (of_z w64 i.read_from-got.result)) l.done i.read_from-got.new.buf (omega (arith, i.read_from-got.auto.buf, l.invariant.1)))
 
 -- what a call put is within the buffer, which is as long as it was
 placed : (done n size after : ℕ) (z : ℤ) → SFits w64 z → done ≤ size → after ≡ size → Moved (size - done) z → n ≡ count_of (to_z w64 (of_z w64 z)) → done + n ≤ after

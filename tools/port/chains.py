@@ -21,6 +21,25 @@ class Walk:
         self.names = of["places_by_name"]
         self.parent = [old.index(p[1]) if p[1] in old else None for p in of["places"]]
         self.step = [p[2][1] for p in of["places"]]
+        # an arm of a match is one place today, with what its two or three places had as fields
+        raw, was = list(self.parent), {key(p[2][0]): p[2][1] for p in of["places"]}
+        self.turn = []
+        for i, arm in enumerate(of["arms"]):
+            if not arm:
+                continue
+            at = i
+            for _ in range(arm[1]):
+                at = raw[at] if at is not None else None
+            self.parent[i], self.step[i] = at, arm[0]
+            chain, at = [], i
+            for _ in range(arm[1]):
+                chain.append(at)
+                at = raw[at] if at is not None else None
+            for field, step, path in arm[2] if len(arm) > 2 else []:
+                for j in chain:
+                    if j is not None and key(of["places"][j][2][0]) == key(step) and (path or arm[1] > 1):
+                        self.turn.append((of["places"][j][2][1], path, arm[0], field))
+        self.turn.sort(key=lambda it: -len(it[1]))
         self.asked = {new: self.names.index(at[1]) for (_, new), at in zip(of["needs"], of["asked_at"]) if at and at[1] in self.names}
         self.needs = [new for _, new in of["needs"]]
 
@@ -44,7 +63,17 @@ class Walk:
         return None
 
 
-PATH = r"(?<![\w.'-])({})((?:\.before)*)(?:\.([^\s(){{}};,.]+))?"
+def key(name):
+    return re.sub(r"[-_]+", "_", name)
+
+
+def arms(walk, text):
+    for raw, path, step, field in walk.turn:
+        if not path:
+            continue
+        rest = "".join(r"\." + ("(?:given|requires)" if w == "given" else re.escape(w)) for w in path)
+        text = re.sub(r"(?<=[\w)])\." + re.escape(raw) + rest + r"(?![\w-])", f".{step}.{field}", text)
+    return text
 
 
 def body(walk, text, env, helpers):
@@ -119,6 +148,8 @@ def arguments(text, at):
 def proof(path, of):
     walk = Walk(of)
     text = read(path)
+    old = text
+    text = arms(walk, text)
     pieces = re.split(r"(?m)^(?=(?:abbrev )?(?:pub )?[^\s(){};,.:]+ :)", text)
     helpers, places = {}, {n: i for i, n in enumerate(walk.names)}
     for piece in pieces:
@@ -167,7 +198,7 @@ def proof(path, of):
                     piece = piece[:a] + piece[a : a + lam.end()] + body(walk, piece[a + lam.end() : b], {lam[1]: walk.asked[goal]}, helpers) + piece[b:]
         done.append(piece)
     new = "".join(done)
-    if new != text:
+    if new != old:
         with open(path, "w", encoding="utf-8") as f:
             f.write(new)
         return 1

@@ -8,7 +8,7 @@ unfolding pushed
 push_spec =
     tie.close
     (tie.spec (λ c. search rules) (λ c. search rules) (λ c κs. tt) (λ c. search rules)
-    (λ c. simp c.enum_told-1.requires.1)
-    (λ c. simp (c.before.before.before.f-1.requires.1, ← c.before.equals.ensures, c.if-equals.true))
-    (λ c. simp (c.before.before.before.f-1.requires.1, ← c.before.equals.ensures, c.if-equals.false))
-    (λ c. simp c.before.f-in-Two-1.requires.1))
+    (λ c. simp c.in-None.is)
+    (λ c. simp (c.before.before.in-One.is, ← c.before.equals.ensures, c.if-equals.true))
+    (λ c. simp (c.before.before.in-One.is, ← c.before.equals.ensures, c.if-equals.false))
+    (λ c. simp c.in-Two.is))

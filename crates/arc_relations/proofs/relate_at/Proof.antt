@@ -10,7 +10,7 @@ relate_at_spec =
     (tie.spec
     (λ c κs. search rules) (λ c. search rules) (λ c. search rules) (λ c κs. tt) (λ c. search rules)
     (λ c. search rules)
-    (λ c. simp (← c.before.before.meeting_at.ensures, c.enum_told-1.requires.1))
-    (λ c. simp (← c.before.before.before.meeting_at.ensures, c.before.enum_told-in-Collinear-1.requires.1) c.relate_collinear.ensures)
-    (λ c. simp (← c.before.before.before.meeting_at.ensures, c.before.p-1.requires.1))
-    (λ c. simp (← c.before.before.before.meeting_at.ensures, c.before.p-in-Touching-1.requires.1)))
+    (λ c. simp (← c.before.meeting_at.ensures, c.in-Apart.is))
+    (λ c. simp (← c.before.before.meeting_at.ensures, c.before.in-Collinear.is) c.relate_collinear.ensures)
+    (λ c. simp (← c.before.meeting_at.ensures, c.in-Crossing.is))
+    (λ c. simp (← c.before.meeting_at.ensures, c.in-Touching.is)))

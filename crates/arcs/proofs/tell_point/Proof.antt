@@ -7,4 +7,4 @@ tell_point_spec =
     tie.close
     (tie.spec
     (λ c. search rules) (λ c. search rules) (λ c. search rules)
-    (λ c. simp c.before.p-1.requires.1))
+    (λ c. simp c.in-At.is))

@@ -7,6 +7,6 @@ tell_relation_spec =
     tie.close
     (tie.spec
     (λ c. search rules) (λ c. search rules) (λ c. search rules) (λ c. search rules) (λ c. search rules)
-    (λ c. simp c.before.r-1.requires.1)
-    (λ c. simp c.before.r-in-Touching-1.requires.1)
-    (λ c. simp c.before.r-in-Overlapping-1.requires.1))
+    (λ c. simp c.in-Intersecting.is)
+    (λ c. simp c.in-Touching.is)
+    (λ c. simp c.in-Overlapping.is))

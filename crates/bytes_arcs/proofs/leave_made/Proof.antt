@@ -9,6 +9,6 @@ leave_made_spec =
     tie.close
     (tie.spec
     (λ c. search rules) (λ c κs. search rules) (λ c. search rules) (λ c κs. search rules)
-    (λ c. simp (c.refusal.ensures, c.before.before.m-1.requires.1))
+    (λ c. simp (c.refusal.ensures, c.before.in-Refused.is))
     (λ c. search rules)
-    (λ c. let l = c.before.before in simp l.before.before.before.m-in-Arc-1.requires.1 l.leave_arc.ensures))
+    (λ c. let l = c.before.before in simp l.before.before.in-Arc.is l.leave_arc.ensures))

@@ -13,7 +13,7 @@ leave_met_spec =
     tie.close
     (tie.spec
     (λ c. search rules) (λ c κs. search rules) (λ c. search rules) (λ c. search rules) (λ c κs. search rules)
-    (λ c. simp (c.refusal.ensures, c.before.before.m-1.requires.1))
-    (λ c. simp c.enum_told-1.requires.1 (room 0 [] c.before.before.before.args.out.now (omega arith) refl))
+    (λ c. simp (c.refusal.ensures, c.before.in-Refused.is))
+    (λ c. simp c.in-Nowhere.is (room 0 [] c.before.before.args.out.now (omega arith) refl))
     (λ c. search rules)
-    (λ c. let l = c.before.before in simp l.before.before.before.m-in-At-1.requires.1 l.leave_point.ensures))
+    (λ c. let l = c.before.before in simp l.before.before.in-At.is l.leave_point.ensures))

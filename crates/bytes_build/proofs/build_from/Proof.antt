@@ -10,31 +10,31 @@ start_of c = c.before.before.before.before.before.before.before.before.before
 
 leave-loop-requires : tie.Need-leave_loop-requires
 leave-loop-requires c κs =
-    let told = c.before.before in
-    let built = told.before.before.before.before.before.before.before.before in
+    let told = c.before in
+    let built = told.before.before.before.before.before.before.before in
     let start = start_of built in
     let a = start.args in
     fitting a.mode a.list.now a.positions.now a.normals.now a.classes.now a.out.now start.requires
-    (simp told.b-in-Loop-1.requires.1 at built.build-b.ensures) (search rules) (search rules) (search rules)
+    (simp told.in-Loop.is at built.build-b.ensures) (search rules) (search rules) (search rules)
 
 returns : tie.Need-returns-in-Refused
 returns c =
-    let told = c.before.before in
-    let built = told.before.before.before.before.before.before.before.before in
+    let told = c.before in
+    let built = told.before.before.before.before.before.before.before in
     let start = start_of built in
     let a = start.args in
     was_refused a.mode a.list.now a.positions.now a.normals.now a.classes.now a.out.now start.requires
-    (simp told.b-1.requires.1 at built.build-b.ensures) c.refusal.ensures
+    (simp told.in-Refused.is at built.build-b.ensures) c.refusal.ensures
 
 returns-2 : tie.Need-returns-in-Loop
 returns-2 c =
     let left = c.before.before in
-    let told = left.before.before.before in
-    let built = told.before.before.before.before.before.before.before.before in
+    let told = left.before.before in
+    let built = told.before.before.before.before.before.before.before in
     let start = start_of built in
     let a = start.args in
     was_written a.mode a.list.now a.positions.now a.normals.now a.classes.now a.out.now start.requires
-    (simp told.b-in-Loop-1.requires.1 at built.build-b.ensures) left.leave_loop.ensures
+    (simp told.in-Loop.is at built.build-b.ensures) left.leave_loop.ensures
 
 pub build_from_spec : {M : Type 1} → statement M
 build_from_spec =

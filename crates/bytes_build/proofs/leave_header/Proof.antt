@@ -9,9 +9,9 @@ leave_header_spec =
     tie.close
     (tie.spec
     (λ c. search rules) (λ c κs. search rules) (λ c. search rules) (λ c κs. search rules)
-    (λ c. let told = c.before.before.before.before.before.before in
-    let counted = simp told.b-in-Loop-1.requires.1 at told.before.before.before.requires.0 in
+    (λ c. let told = c.before.before.before.before.before in
+    let counted = simp told.in-Loop.is at told.before.before.requires.0 in
     omega (arith, counted))
-    (λ c. simp (c.refusal.ensures, c.before.before.b-1.requires.1))
+    (λ c. simp (c.refusal.ensures, c.before.in-Refused.is))
     (λ c. search rules)
-    (λ c. let put = c.before.before.before in simp (put.before.before.before.b-in-Loop-1.requires.1, put.put_header.ensures)))
+    (λ c. let put = c.before.before.before in simp (put.before.before.in-Loop.is, put.put_header.ensures)))

@@ -8,7 +8,7 @@ leave_cut_spec =
     tie.close
     (tie.spec
     (λ c. search rules) (λ c κs. search rules) (λ c. search rules) (λ c κs. search rules)
-    (λ c. let h = simp c.before.before.before.before.before.c-in-Triangles-1.requires.1 at c.before.before.before.before.before.before.before.before.before.requires.0 in omega (arith, h))
-    (λ c. simp (c.refusal.ensures, c.before.before.c-1.requires.1))
+    (λ c. let h = simp c.before.before.before.before.in-Triangles.is at c.before.before.before.before.before.before.before.requires.0 in omega (arith, h))
+    (λ c. simp (c.refusal.ensures, c.before.in-Refused.is))
     (λ c. search rules)
-    (λ c. simp (c.before.before.before.before.before.c-in-Triangles-1.requires.1, c.before.before.put_numbers.ensures)))
+    (λ c. simp (c.before.before.before.before.in-Triangles.is, c.before.before.put_numbers.ensures)))

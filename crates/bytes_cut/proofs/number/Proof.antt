@@ -8,6 +8,6 @@ number_spec =
     tie.close
     (tie.spec
     (λ c. search rules) (λ c κs. search rules) (λ c. search rules)
-    (λ c. let h = simp c.before.c-in-Triangles-1.requires.1 at c.before.before.before.requires in omega (arith, h))
-    (λ c. simp (c.refusal.ensures, c.before.before.c-1.requires.1))
+    (λ c. let h = simp c.in-Triangles.is at c.before.requires in omega (arith, h))
+    (λ c. simp (c.refusal.ensures, c.before.in-Refused.is))
     (λ c. search rules))

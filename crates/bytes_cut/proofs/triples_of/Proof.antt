@@ -8,5 +8,5 @@ triples_of_spec =
     tie.close
     (tie.spec
     (λ c. search rules) (λ c. search rules) (λ c. search rules) (λ c. search rules) (λ c. search rules) (λ c. search rules)
-    (λ c. (simp c.before.enum_told-in-Ring-1.requires.1 (omega arith), omega arith))
-    (λ c. (simp c.before.enum_told-in-Ring-1.requires.1, omega arith)))
+    (λ c. (simp c.before.in-Ring.is (omega arith), omega arith))
+    (λ c. (simp c.before.in-Ring.is, omega arith)))

@@ -7,7 +7,7 @@ use Rattle.bytes_distances.proofs.leave_float.Tie as tie
 written : tie.Need-returns-in-Chord
 written c =
     let left = c.before.before in
-    simp left.before.before.before.d-in-Chord-1.requires.1 left.leave_float_chord.ensures
+    simp left.before.before.in-Chord.is left.leave_float_chord.ensures
 
 pub leave_float_spec : {M : Type 1} → statement M
 unfolding leave_float
@@ -15,5 +15,5 @@ leave_float_spec =
     tie.close
     (tie.spec
     (λ c. search rules) (λ c κs. search rules) (λ c. search rules) (λ c κs. search rules)
-    (λ c. simp (c.refusal.ensures, c.before.before.d-1.requires.1))
+    (λ c. simp (c.refusal.ensures, c.before.in-Refused.is))
     (λ c. search rules) written)

@@ -7,5 +7,5 @@ first_inside_spec =
     tie.close
     (tie.spec
     (λ c. search rules) (λ c. search rules)
-    (λ c. simp c.enum_told-1.requires.1)
+    (λ c. simp c.in-Absent.is)
     (λ c. search rules))

@@ -7,5 +7,5 @@ compare_spec =
     tie.close
     (tie.spec
     (λ c. search rules) (λ c κs. search rules) (λ c κs. search rules) (λ c. search rules) (λ c κs. search rules) (λ c κs. search rules)
-    (λ c. simp c.before.before.enum_told-1.requires.1 (simp c.before.relate.ensures at c.related.ensures))
-    (λ c. simp c.before.before.enum_told-in-Equivalence-1.requires.1 (simp c.before.is_equivalent.ensures at c.answered.ensures)))
+    (λ c. simp c.before.before.in-Relation.is (simp c.before.relate.ensures at c.related.ensures))
+    (λ c. simp c.before.before.in-Equivalence.is (simp c.before.is_equivalent.ensures at c.answered.ensures)))

@@ -7,5 +7,5 @@ related_spec =
     tie.close
     (tie.spec
     (λ c. search rules) (λ c κs. search rules) (λ c. search rules) (λ c. search rules) (λ c. search rules) (λ c. search rules) (λ c. search rules) (λ c. search rules)
-    (λ c. simp (c.refusal.ensures, c.before.before.r-1.requires.1))
+    (λ c. simp (c.refusal.ensures, c.before.in-Refused.is))
     (λ c. search rules) (λ c. search rules) (λ c. search rules) (λ c. search rules) (λ c. search rules) (λ c. search rules))

@@ -4,7 +4,7 @@ use Rattle.input.proofs.is_whole.Statement.{statement}
 use Rattle.input.proofs.is_whole.Tie as tie
 
 returns : tie.Need-returns-in-Read
-returns c = simp c.before.got-1.requires.1
+returns c = simp c.in-Read.is
 
 pub is_whole_spec : {M : Type 1} → statement M
 is_whole_spec = tie.close (tie.spec (λ c. search rules) (λ c. search rules) returns (λ c. search rules))

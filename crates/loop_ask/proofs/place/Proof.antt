@@ -8,5 +8,5 @@ place_spec =
     tie.close
     (tie.spec
     (λ c. search rules) (λ c κs. search rules) (λ c. search rules) (λ c κs. search rules) (λ c κs. search rules)
-    (λ c. simp c.before.enum_told-1.requires.1 c.place_without.ensures)
-    (λ c. simp c.before.before.before.insides-1.requires.1 (c.tell_place.ensures ∙ simp c.before.inside_with.ensures)))
+    (λ c. simp c.before.in-Absent.is c.place_without.ensures)
+    (λ c. simp c.before.before.in-Two.is (c.tell_place.ensures ∙ simp c.before.inside_with.ensures)))

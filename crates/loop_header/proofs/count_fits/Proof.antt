@@ -7,6 +7,6 @@ count_fits_spec =
     tie.close
     (tie.spec
     (λ c. search rules) (λ c. search rules) (λ c. search rules)
-    (λ c. simp c.enum_told-1.requires.1)
-    (λ c. simp c.enum_told-in-Full-1.requires.1)
-    (λ c. simp c.enum_told-in-Ring-1.requires.1))
+    (λ c. simp c.in-Empty.is)
+    (λ c. simp c.in-Full.is)
+    (λ c. simp c.in-Ring.is))

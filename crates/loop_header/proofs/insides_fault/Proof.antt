@@ -8,4 +8,4 @@ insides_fault_spec =
     (tie.spec
     (λ c. search rules) (λ c. search rules) (λ c κs. search rules) (λ c κs. search rules) (λ c κs. search rules)
     (λ c. search rules)
-    (λ c. simp (c.before.before.before.before.i-1.requires.1, c.first.ensures, c.before.vector_fault-in-Two.ensures, c.before.before.vector_fault.ensures)))
+    (λ c. simp (c.before.before.before.in-Two.is, c.first.ensures, c.before.vector_fault-in-Two.ensures, c.before.before.vector_fault.ensures)))

@@ -5,12 +5,12 @@ use Rattle.loop_relate.proofs.caps_meet.Tie as tie
 
 returns : tie.Need-returns-in-Plain
 returns c =
-    let asked = c.before.before in
+    let asked = c.before in
     let second = asked.before in
-    simp (c.enum_told-1.requires.1, asked.intersects-meet.ensures, second.cleared_cap-2.ensures, second.before.cleared_cap.ensures)
+    simp (c.in-Plain.is, asked.intersects-meet.ensures, second.cleared_cap-2.ensures, second.before.cleared_cap.ensures)
 
 returns-2 : tie.Need-returns-in-Long
-returns-2 c = simp c.enum_told-in-Long-1.requires.1
+returns-2 c = simp c.in-Long.is
 
 pub caps_meet_spec : {M : Type 1} → statement M
 caps_meet_spec =

@@ -8,6 +8,6 @@ probe_inside_spec =
     (tie.spec
     (λ c. search rules) (λ c. search rules) (λ c κs. search rules) (λ c κs. search rules) (λ c. search rules)
     (λ c κs. search rules) (λ c κs. search rules)
-    (λ c. simp c.enum_told-1.requires.1)
-    (λ c. simp (c.before.before.before.at-1.requires.1, c.is_inside.ensures, c.before.place.ensures))
-    (λ c. simp (c.before.before.before.at-in-Middle-1.requires.1, c.is_inside-in-Middle.ensures, c.before.place-in-Middle.ensures)))
+    (λ c. simp c.in-Nowhere.is)
+    (λ c. simp (c.before.before.in-Corner.is, c.is_inside.ensures, c.before.place.ensures))
+    (λ c. simp (c.before.before.in-Middle.is, c.is_inside-in-Middle.ensures, c.before.place-in-Middle.ensures)))

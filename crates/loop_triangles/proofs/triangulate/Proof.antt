@@ -12,30 +12,30 @@ returns c = rw (← c.before.cut_fault-f.ensures) (was_refused _ _ _ c.if-f-ne0.
 
 cut-corners-requires : tie.Need-cut_corners-requires
 cut-corners-requires c κs =
-    let fine = c.before.before.before in
-    cut_ring _ _ _ fine.before.cut_fault-f.ensures fine.if-f-ne0.false c.before.enum_told-in-Ring-1.requires.1
+    let fine = c.before.before in
+    cut_ring _ _ _ fine.before.cut_fault-f.ensures fine.if-f-ne0.false c.before.in-Ring.is
 
 returns-2 : tie.Need-returns-in-Empty
 unfolding triangulate_outcome
 returns-2 c =
-    let fine = c.before.before in
-    simp c.enum_told-1.requires.1 (rw (← fine.before.cut_fault-f.ensures) (was_fine _ fine.if-f-ne0.false))
+    let fine = c.before in
+    simp c.in-Empty.is (rw (← fine.before.cut_fault-f.ensures) (was_fine _ fine.if-f-ne0.false))
 
 returns-3 : tie.Need-returns-in-Full
 unfolding triangulate_outcome
 returns-3 c =
     let cut = c.before.before in
     let full = cut.before.before in
-    let fine = full.before.before in
-    simp full.enum_told-in-Full-1.requires.1 (rw (← fine.before.cut_fault-f.ensures) (cut.cut_full.ensures ∙ was_fine _ fine.if-f-ne0.false))
+    let fine = full.before in
+    simp full.in-Full.is (rw (← fine.before.cut_fault-f.ensures) (cut.cut_full.ensures ∙ was_fine _ fine.if-f-ne0.false))
 
 returns-4 : tie.Need-returns-in-Ring
 unfolding triangulate_outcome
 returns-4 c =
     let cut = c.before.before in
     let ring = cut.before.before in
-    let fine = ring.before.before in
-    simp ring.enum_told-in-Ring-1.requires.1 (rw (← fine.before.cut_fault-f.ensures) (cut.cut_corners.ensures ∙ was_fine _ fine.if-f-ne0.false))
+    let fine = ring.before in
+    simp ring.in-Ring.is (rw (← fine.before.cut_fault-f.ensures) (cut.cut_corners.ensures ∙ was_fine _ fine.if-f-ne0.false))
 
 pub triangulate_spec : {M : Type 1} → statement M
 triangulate_spec =

@@ -15,14 +15,14 @@ neither Long s e h = rw h
 
 returns : tie.Need-returns-in-Plain
 returns c =
-    let one = c.before.before in
-    simp (c.enum_told-1.requires.1, ← one.before.beyond.ensures, one.if-beyond.true)
+    let one = c.before in
+    simp (c.in-Plain.is, ← one.before.beyond.ensures, one.if-beyond.true)
 
 returns-2 : tie.Need-returns-in-Long
 returns-2 c =
     let long = c.before in
-    let one = long.before.before in
-    simp (long.enum_told-in-Long-1.requires.1, ← one.before.beyond.ensures, one.if-beyond.true) c.beyond-in-Long.ensures
+    let one = long.before in
+    simp (long.in-Long.is, ← one.before.beyond.ensures, one.if-beyond.true) c.beyond-in-Long.ensures
 
 returns-3 : tie.Need-returns-else-beyond
 returns-3 c =

@@ -7,4 +7,4 @@ insides_from_spec =
     tie.close
     (tie.spec
     (λ c. search rules) (λ c. search rules) (λ c. search rules) (λ c. search rules) (λ c. search rules)
-    (λ c. simp c.before.f-in-Both-1.requires.1))
+    (λ c. simp c.in-Both.is))

@@ -7,4 +7,4 @@ with_mean_spec =
     tie.close
     (tie.spec
     (λ c. search rules) (λ c. search rules) (λ c κs. search rules) (λ c. search rules)
-    (λ c. simp (c.with_position.ensures, c.before.before.p-1.requires.1)))
+    (λ c. simp (c.with_position.ensures, c.before.in-At.is)))

@@ -7,6 +7,6 @@ with_position_spec =
     tie.close
     (tie.spec
     (λ c. search rules) (λ c. search rules) (λ c. search rules)
-    (λ c. simp c.enum_told-1.requires.1)
-    (λ c. simp c.before.f-1.requires.1)
-    (λ c. simp c.before.f-in-Both-1.requires.1))
+    (λ c. simp c.in-Nothing.is)
+    (λ c. simp c.in-One.is)
+    (λ c. simp c.in-Both.is))

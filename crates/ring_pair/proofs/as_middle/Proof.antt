@@ -7,4 +7,4 @@ as_middle_spec =
     tie.close
     (tie.spec
     (λ c. search rules) (λ c. search rules) (λ c. search rules)
-    (λ c. simp c.before.at-1.requires.1))
+    (λ c. simp c.in-At.is))

@@ -7,4 +7,4 @@ free_point_spec =
     tie.close
     (tie.spec
     (λ c. search rules) (λ c. search rules) (λ c κs. search rules) (λ c. search rules)
-    (λ c. simp (c.before.before.at-1.requires.1, c.any_edge_contains_position.ensures)))
+    (λ c. simp (c.before.in-At.is, c.any_edge_contains_position.ensures)))

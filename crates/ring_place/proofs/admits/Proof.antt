@@ -7,5 +7,5 @@ pub admits_spec : {M : Type 1} → statement M
 admits_spec =
     tie.close
     (tie.spec (λ c κs. search rules) (λ c. search rules) (λ c. search rules)
-    (λ c. simp (c.enum_told-1.requires.1, c.before.before.contains_position-inside.ensures))
-    (λ c. simp c.enum_told-in-Long-1.requires.1))
+    (λ c. simp (c.in-Plain.is, c.before.contains_position-inside.ensures))
+    (λ c. simp c.in-Long.is))

@@ -7,5 +7,5 @@ passed_spec =
     tie.close
     (tie.spec
     (λ c. search rules) (λ c κs. search rules) (λ c. search rules) (λ c κs. search rules)
-    (λ c. simp (c.before.before.enum_told-1.requires.1, c.new.ensures))
-    (λ c. simp (c.before.before.at-1.requires.1, c.met.ensures)))
+    (λ c. simp (c.before.before.in-Absent.is, c.new.ensures))
+    (λ c. simp (c.before.in-At.is, c.met.ensures)))

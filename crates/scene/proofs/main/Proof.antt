@@ -8,13 +8,13 @@ use Rattle.scene.proofs.main.Tie as tie
 
 array-share-prefix-bytes : tie.Need-slice_bounds-bytes-end
 array-share-prefix-bytes c =
-    let r = c.before.before.before.before.read in
-    (subst (λ (x : Input). Within x r.new.buf) c.before.n-1.requires.1 r.ensures).0
+    let r = c.before.before.read in
+    (subst (λ (x : Input). Within x r.new.buf) c.in-Read.is r.ensures).0
 
 slice-aggregate-print : tie.Need-slice_bounds-print-end
 slice-aggregate-print c =
-    let r = c.before.before.before.before.before.read in
-    (subst (λ (x : Input). Within x r.new.buf) c.before.before.n-1.requires.1 r.ensures).1
+    let r = c.before.before.before.read in
+    (subst (λ (x : Input). Within x r.new.buf) c.before.in-Read.is r.ensures).1
 
 pub main_spec : {M : Type 1} → statement M
 main_spec =

@@ -8,5 +8,5 @@ far_said_spec =
     tie.close
     (tie.spec
     (λ c. search rules) (λ c. search rules) (λ c κs. search rules)
-    (λ c. simp c.before.distance-1.requires.1)
-    (λ c. simp (c.before.before.distance-in-Chord-1.requires.1, c.to_bits.ensures)))
+    (λ c. simp c.in-Refused.is)
+    (λ c. simp (c.before.in-Chord.is, c.to_bits.ensures)))

@@ -8,7 +8,7 @@ place_said_spec =
     tie.close
     (tie.spec
     (λ c. search rules) (λ c. search rules) (λ c. search rules) (λ c. search rules)
-    (λ c. simp c.before.placed-1.requires.1)
-    (λ c. simp c.enum_told-1.requires.1)
-    (λ c. simp c.enum_told-in-Inside-1.requires.1)
-    (λ c. simp c.enum_told-in-Mute-1.requires.1))
+    (λ c. simp c.in-Refused.is)
+    (λ c. simp c.in-Outside.is)
+    (λ c. simp c.in-Inside.is)
+    (λ c. simp c.in-Mute.is))

@@ -8,49 +8,49 @@ returns-area : tie.Need-returns-in-Area
 unfolding room_of
 returns-area c =
     let put = c.before.before in
-    let line = put.before.before.before.line-1.requires.1 in
+    let line = put.before.before.in-Area.is in
     (simp line put.put_area.ensures.0, simp line put.put_area.ensures.1)
 
 returns-place : tie.Need-returns-in-Place
 unfolding room_of
 returns-place c =
     let put = c.before.before in
-    let line = put.before.before.before.line-in-Place-1.requires.1 in
+    let line = put.before.before.in-Place.is in
     (simp line put.put_place.ensures.0, simp line put.put_place.ensures.1)
 
 returns-pair : tie.Need-returns-in-Pair
 unfolding room_of
 returns-pair c =
     let put = c.before.before in
-    let line = put.before.before.before.line-in-Pair-1.requires.1 in
+    let line = put.before.before.in-Pair.is in
     (simp line put.put_pair.ensures.0, simp line put.put_pair.ensures.1)
 
 returns-far : tie.Need-returns-in-Far
 unfolding room_of
 returns-far c =
     let put = c.before.before in
-    let line = put.before.before.before.line-in-Far-1.requires.1 in
+    let line = put.before.before.in-Far.is in
     (simp line put.put_far.ensures.0, simp line put.put_far.ensures.1)
 
 returns-end : tie.Need-returns-in-End
 unfolding room_of
 returns-end c =
     let put = c.before.before in
-    let line = put.before.before.before.line-in-End-1.requires.1 in
+    let line = put.before.before.in-End.is in
     (simp line put.put_end.ensures.0, simp line put.put_end.ensures.1)
 
 returns-refused : tie.Need-returns-in-Refused
 unfolding room_of
 returns-refused c =
     let put = c.before.before in
-    let line = put.before.before.before.line-in-Refused-1.requires.1 in
+    let line = put.before.before.in-Refused.is in
     (simp line put.Put-refused.ensures.0, simp line put.Put-refused.ensures.1)
 
 returns-refused-at : tie.Need-returns-in-RefusedAt
 unfolding room_of
 returns-refused-at c =
     let put = c.before.before in
-    let line = put.before.before.before.line-in-RefusedAt-1.requires.1 in
+    let line = put.before.before.in-RefusedAt.is in
     (simp line put.put_refused_at.ensures.0, simp line put.put_refused_at.ensures.1)
 
 pub put_line_spec : {M : Type 1} → statement M

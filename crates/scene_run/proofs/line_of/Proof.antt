@@ -9,8 +9,8 @@ line_of_spec =
     (tie.spec
     (λ c. search rules) (λ c. search rules) (λ c κs. search rules) (λ c. search rules) (λ c. search rules)
     (λ c. search rules) (λ c. search rules) (λ c. search rules)
-    (λ c. simp c.enum_told-1.requires.1)
-    (λ c. simp (c.before.before.report-1.requires.1, c.fault_number.ensures))
-    (λ c. simp c.before.report-in-Refused-1.requires.1)
-    (λ c. simp c.before.report-in-RefusedAt-1.requires.1)
+    (λ c. simp c.in-End.is)
+    (λ c. simp (c.before.in-Bad.is, c.fault_number.ensures))
+    (λ c. simp c.in-Refused.is)
+    (λ c. simp c.in-RefusedAt.is)
     (λ c. search rules))

@@ -9,10 +9,10 @@ build-area-requires c κs = let given = c.before.before.before.before.before.bef
 
 area-line-requires : tie.Need-area_line-requires
 area-line-requires c κs =
-    let looped = c.before in
-    let at-build = looped.before.before.before.before.before.before.before.before in
+    let looped = c in
+    let at-build = looped.before.before.before.before.before.before.before in
     let built = at-build.build_area.ensures in
-    let header = looped.h-1.requires.1 in
+    let header = looped.in-Loop.is in
     let given = at-build.before.before.before.before.before.before.before.before.before.requires in (
       new_lies _ _ given.0 given.1 built header (search rules) (search rules) (search rules),
       addable _ _ given.0 given.1 built header,
@@ -21,21 +21,21 @@ area-line-requires c κs =
 refusal-requires : tie.Need-refusal-requires
 refusal-requires c κs =
     let at-build = c.before.before.before.before.before.before.before.before.before in
-    let given = at-build.before.before.before.before.before.before.before.before.before.requires in
+    let given = at-build.before.before.before.before.before.before.before.requires in
     (given.0.good.small, (room _ _ given.0 given.1).0, given.0.whole)
 
 returns-refused : tie.Need-returns-in-Refused
 returns-refused c =
-    let at-build = c.before.before.before.before.before.before.before.before.before.before in
+    let at-build = c.before.before.before.before.before.before.before.before in
     let given = at-build.before.before.before.before.before.before.before.before.before.requires in
-    area_refused _ _ given.0 given.1 at-build.build_area.ensures c.before.before.k-1.requires.1 c.refusal.ensures
+    area_refused _ _ given.0 given.1 at-build.build_area.ensures c.before.in-Refused.is c.refusal.ensures
 
 returns-looped : tie.Need-returns-in-Loop
 returns-looped c =
-    let looped = c.before.before in
-    let at-build = looped.before.before.before.before.before.before.before.before in
+    let looped = c.before in
+    let at-build = looped.before.before.before.before.before.before.before in
     let built = at-build.build_area.ensures in
-    let header = looped.h-1.requires.1 in
+    let header = looped.in-Loop.is in
     let given = at-build.before.before.before.before.before.before.before.before.before.requires in
     area_looped _ _ given.0 given.1 built header c.area_line.ensures
 

@@ -19,14 +19,14 @@ area-made-requires c κs =
 
 returns-bad : tie.Need-returns-in-Bad
 returns-bad c =
-    let judged = c.before.before.before in
-    area_bad _ _ judged.before.before.before.before.before.requires judged.judge_area.ensures c.before.f-1.requires.1
+    let judged = c.before in
+    area_bad _ _ judged.before.before.before.before.before.requires judged.judge_area.ensures c.in-Bad.is
 
 returns-fine : tie.Need-returns-in-Fine
 returns-fine c =
     let found = fine (made c).before in
     let judged = found.before.before in
-    area_fine _ _ judged.before.before.before.before.before.requires judged.judge_area.ensures found.enum_told-1.requires.1 (made c).area-made.ensures
+    area_fine _ _ judged.before.before.before.before.before.requires judged.judge_area.ensures found.in-Fine.is (made c).area-made.ensures
 
 pub area_step_spec : {M : Type 1} → statement M
 area_step_spec =

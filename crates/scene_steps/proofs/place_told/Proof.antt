@@ -8,5 +8,5 @@ place_told_spec =
     tie.close
     (tie.spec
     (λ c. search rules) (λ c κs. search rules) (λ c. search rules)
-    (λ c. simp c.before.before.said-1.requires.1 c.refusal.ensures)
-    (λ c. simp c.before.said-in-Line-1.requires.1))
+    (λ c. simp c.before.in-Refused.is c.refusal.ensures)
+    (λ c. simp c.in-Line.is))

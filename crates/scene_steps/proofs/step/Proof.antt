@@ -31,10 +31,10 @@ pair-step-requires c κs =
     ready_on read.before.before.before.before.before.requires read.read_at.ensures (pair_found c).number3.given.1
 
 returns-end : tie.Need-returns-in-End
-returns-end c = step_is _ _ _ _ _ c.before.before.read_at.ensures c.enum_told-1.requires.1 refl
+returns-end c = step_is _ _ _ _ _ c.before.read_at.ensures c.in-End.is refl
 
 returns-bad : tie.Need-returns-in-Bad
-returns-bad c = step_is _ _ _ _ _ c.before.before.before.read_at.ensures c.before.f-1.requires.1 refl
+returns-bad c = step_is _ _ _ _ _ c.before.read_at.ensures c.in-Bad.is refl
 
 abbrev stepped : tie.After-slice_known-in-Area-3-1 → tie.After-area_step
 stepped c = c.before.before.before.before.before.before

@@ -9,8 +9,8 @@ put_state_spec =
     (tie.spec
     (λ c. search rules) (λ c. search rules) (λ c κs. search rules) (λ c. search rules) (λ c. search rules)
     (λ c κs. search rules) (λ c. search rules) (λ c κs. search rules) (λ c. search rules)
-    (λ c. (simp c.before.before.before.before.before.before.enum_told-1.requires.1 c.before.before.put.ensures, omega (arith, c.before.before.put.ensures.next_offset)))
+    (λ c. (simp c.before.before.before.before.before.before.in-Empty.is c.before.before.put.ensures, omega (arith, c.before.before.put.ensures.next_offset)))
     (λ c. search rules)
-    (λ c. (simp c.before.before.before.before.before.before.enum_told-in-Full-1.requires.1 c.before.before.put-in-Full.ensures, omega (arith, c.before.before.put-in-Full.ensures.next_offset)))
+    (λ c. (simp c.before.before.before.before.before.before.in-Full.is c.before.before.put-in-Full.ensures, omega (arith, c.before.before.put-in-Full.ensures.next_offset)))
     (λ c. search rules)
-    (λ c. (simp c.before.before.before.before.enum_told-in-Ring-1.requires.1 c.before.before.put_ring.ensures.0, c.before.before.put_ring.ensures.1)))
+    (λ c. (simp c.before.before.before.before.in-Ring.is c.before.before.put_ring.ensures.0, c.before.before.put_ring.ensures.1)))

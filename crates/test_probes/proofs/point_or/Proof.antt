@@ -8,5 +8,5 @@ point_or_spec =
     tie.close
     (tie.spec
     (λ c. search rules) (λ c. search rules)
-    (λ c. simp c.enum_told-1.requires.1)
+    (λ c. simp c.in-Absent.is)
     (λ c. search rules))

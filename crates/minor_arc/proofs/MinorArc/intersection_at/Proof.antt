@@ -7,7 +7,7 @@ intersection_at_spec =
     tie.close
     (tie.spec
     (λ c κs. search rules) (λ c. search rules) (λ c. search rules) (λ c. search rules) (λ c. search rules)
-    (λ c. simp (← c.before.before.meeting_at.ensures, c.enum_told-1.requires.1))
-    (λ c. simp (← c.before.before.meeting_at.ensures, c.enum_told-in-Collinear-1.requires.1))
-    (λ c. simp (← c.before.before.before.meeting_at.ensures, c.before.p-1.requires.1))
-    (λ c. simp (← c.before.before.before.meeting_at.ensures, c.before.p-in-Touching-1.requires.1)))
+    (λ c. simp (← c.before.meeting_at.ensures, c.in-Apart.is))
+    (λ c. simp (← c.before.meeting_at.ensures, c.in-Collinear.is))
+    (λ c. simp (← c.before.meeting_at.ensures, c.in-Crossing.is))
+    (λ c. simp (← c.before.meeting_at.ensures, c.in-Touching.is)))

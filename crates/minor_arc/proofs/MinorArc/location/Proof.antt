@@ -8,6 +8,6 @@ unfolding location_of
 location_spec =
     tie.close
     (tie.spec (λ c κs. tt) (λ c. search rules)
-    (λ c. simp (← c.before.before.side_of-s.ensures, c.enum_told-1.requires.1))
+    (λ c. simp (← c.before.side_of-s.ensures, c.in-Right.is))
     (λ c κs. tt) (λ c κs. tt)
     (λ c. simp (c.locate.ensures, c.before.side_of.ensures, c.before.before.before.before.before.side_of-s.ensures)))

@@ -8,6 +8,6 @@ met_spec =
     tie.close
     (tie.spec
     (λ c. search rules)
-    (λ c. simp c.enum_told-1.requires.1)
+    (λ c. simp c.in-Exterior.is)
     (λ c κs. tt) (λ c κs. tt)
     (λ c. simp (c.meet_at.ensures, c.before.location.ensures)))

@@ -52,8 +52,8 @@ returns-2 : tie.Need-returns-in-Plain
 unfolding meeting_in
 returns-2 c =
     let plain = c.before in
-    let first = plain.before.before.before.before in
-    simp (plain.enum_told-1.requires.1, c.met.ensures, first.location-l.ensures)
+    let first = plain.before.before.before in
+    simp (plain.in-Plain.is, c.met.ensures, first.location-l.ensures)
 
 returns-3 : tie.Need-returns-in-Long
 unfolding meeting_in
@@ -62,9 +62,9 @@ returns-3 c =
     let turned = second.before in
     let met = turned.before in
     let long = met.before in
-    let first = long.before.before.before.before in
+    let first = long.before.before.before in
     simp (
-      long.enum_told-in-Long-1.requires.1,
+      long.in-Long.is,
       c.better.ensures,
       second.meeting_in.ensures,
       turned.neg.ensures,

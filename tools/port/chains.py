@@ -76,21 +76,34 @@ def arms(walk, text):
     return text
 
 
-def body(walk, text, env, helpers):
+def body(walk, text, env, helpers, results={}):
     """The text with its chains counted again; env has each variable's place."""
     env = dict(env)
     out, at = [], 0
-    pattern = re.compile(r"\blet ([^\s:]+) = ([^\s(){};,.]+)((?:\.before)+)( in\b)|(?<![\w.'-])([^\s(){};,.]+)((?:\.before)*)(?:\.([^\s(){};,.]+))?")
+    by_helper = re.compile(r"\blet ([^\s:]+) = ([^\s(){};,.]+) (?:[^\s(){};,.]+(?:\.before)*|\([^()]*\)(?:\.before)*) in\b")
+    pattern = re.compile(r"\(([^\s(){};,.]+) ([^()]*)\)((?:\.before)*)\.(?!before\b)([^\s(){};,.]+)|\blet ([^\s:]+) = ([^\s(){};,.]+)((?:\.before)+)( in\b)|(?<![\w.'-])([^\s(){};,.]+)((?:\.before)*)(?:\.([^\s(){};,.]+))?")
     while True:
         m = pattern.search(text, at)
         if not m:
             return "".join(out) + text[at:]
+        for bound in by_helper.finditer(text, at, m.start()):
+            env[bound[1]] = results.get(bound[2])
         out.append(text[at : m.start()])
         at = m.end()
+        if m[1] and m[1] in results:
+            inner = body(walk, m[1] + " " + m[2], env, helpers, results)
+            found = walk.to_step(results[m[1]], m[4])
+            out.append(f"({inner}){'.before' * found[0] if found else m[3]}.{m[4]}")
+            continue
+        if m[1]:
+            at = m.start() + 1
+            out.append("(")
+            continue
+        m = [None, *m.groups()[4:]]
         if m[1]:
             base, to = env.get(m[2]), None
             if base is not None:
-                use = re.search(r"(?<![\w.'-])" + re.escape(m[1]) + r"\.(?!before\b)([^\s(){};,.]+)", text[m.end() :])
+                use = re.search(r"(?<![\w.'-])" + re.escape(m[1]) + r"\.(?!before\b)([^\s(){};,.]+)", text[at:])
                 found = walk.to_step(base, use[1]) if use else None
                 k = found[0] if found else m[3].count(".before")
                 # what is no step is cited at the place itself
@@ -99,13 +112,14 @@ def body(walk, text, env, helpers):
                     to = chain[k][1]
                 out.append(f"let {m[1]} = {m[2]}{'.before' * k}{m[4]}")
             else:
-                out.append(m[0])
+                out.append(f"let {m[1]} = {m[2]}{m[3]}{m[4]}")
             env[m[1]] = to
             continue
         name, befores, word = m[5], m[6], m[7]
+        whole = name + befores + (f".{word}" if word is not None else "")
         base = env.get(name)
         if base is None:
-            out.append(m[0])
+            out.append(whole)
             continue
         if word is not None:
             found = walk.to_step(base, word)
@@ -119,7 +133,7 @@ def body(walk, text, env, helpers):
                 if k is not None:
                     out.append(name + ".before" * k)
                     continue
-        out.append(m[0])
+        out.append(whole)
 
 
 def arguments(text, at):
@@ -151,11 +165,13 @@ def proof(path, of):
     old = text
     text = arms(walk, text)
     pieces = re.split(r"(?m)^(?=(?:abbrev )?(?:pub )?[^\s(){};,.:]+ :)", text)
-    helpers, places = {}, {n: i for i, n in enumerate(walk.names)}
+    helpers, results, places = {}, {}, {n: i for i, n in enumerate(walk.names)}
     for piece in pieces:
-        m = re.match(r"(?:abbrev )?(?:pub )?(\S+) : tie\.([^\s(){};,.]+)[^→\n]*→", piece)
+        m = re.match(r"(?:abbrev )?(?:pub )?(\S+) : tie\.([^\s(){};,.]+)[^→\n]*→(?: tie\.([^\s(){};,.]+))?", piece)
         if m and m[2] in places:
             helpers[m[1]] = places[m[2]]
+            if m[3] in places:
+                results[m[1]] = places[m[3]]
     done = []
     for piece in pieces:
         m = re.match(r"(?:abbrev )?(?:pub )?(\S+) : ([^\n]*)", piece)
@@ -184,7 +200,7 @@ def proof(path, of):
                     if k is not None:
                         rest = f" {params[0]}{'.before' * k}\n" + ("\n" if rest.endswith("\n\n") else "")
                 else:
-                    rest = body(walk, rest, env, helpers)
+                    rest = body(walk, rest, env, helpers, results)
                 piece = piece[: head.end()] + rest
         spec = piece.find("tie.spec")
         if spec >= 0:
@@ -195,7 +211,7 @@ def proof(path, of):
             for (a, b), goal in reversed(list(zip(given, walk.needs))):
                 lam = re.match(r"\(λ (\S+?)(?: [^.]*)?\. ", piece[a:b])
                 if lam and goal in walk.asked:
-                    piece = piece[:a] + piece[a : a + lam.end()] + body(walk, piece[a + lam.end() : b], {lam[1]: walk.asked[goal]}, helpers) + piece[b:]
+                    piece = piece[:a] + piece[a : a + lam.end()] + body(walk, piece[a + lam.end() : b], {lam[1]: walk.asked[goal]}, helpers, results) + piece[b:]
         done.append(piece)
     new = "".join(done)
     if new != old:

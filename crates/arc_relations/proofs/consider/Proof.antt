@@ -7,5 +7,5 @@ unfolding considered
 consider_spec =
     tie.close
     (tie.spec (λ c κs. tt) (λ c κs. tt) (λ c κs. tt)
-    (λ c. simp (← c.before.before.before.location.ensures, ← c.before.before.is_Within.ensures, c.before.if-is_within.true) c.push.ensures)
-    (λ c. simp (← c.before.before.location.ensures, ← c.before.is_Within.ensures, c.if-is_within.false)))
+    (λ c. simp (← c.before.before.before.location.ensures, ← c.before.before.is_within.ensures, c.before.if-is_within.true) c.push.ensures)
+    (λ c. simp (← c.before.before.location.ensures, ← c.before.is_within.ensures, c.if-is_within.false)))

@@ -18,7 +18,7 @@ returns c =
     let chosen = weak.before in
     let asked = chosen.before in
     full_made
-    _ _ (prepared-of asked).prepare.ensures _ _ _ _
+    _ _ (prepared-of asked).prepare-sum.ensures _ _ _ _
     asked.all_both.ensures chosen.if-all_both.true weak.is_weak.ensures c.full.ensures
 
 write-ring-requires : tie.Need-write_ring-insides-requires
@@ -35,7 +35,7 @@ returns-2 c =
     let chosen = turned.before in
     let asked = chosen.before in
     ring_made_lem
-    _ _ (prepared-of asked).prepare.ensures _ _ _ _
+    _ _ (prepared-of asked).prepare-sum.ensures _ _ _ _
     asked.all_both.ensures chosen.if-all_both.false turned.is_clockwise-reversed.ensures
     written.write_ring-insides.ensures capped.bounding_cap.ensures c.is_weak-2.ensures
 

@@ -10,8 +10,8 @@ by_foot_spec =
     (tie.spec
     (λ c κs. tt) (λ c κs. tt) (λ c κs. tt) (λ c κs. tt)
     (λ c. let on = c.before in
-    let h = simp (on.before.is_Within.ensures, on.before.before.location.ensures) at on.if-is_within.true in
+    let h = simp (on.before.is_within.ensures, on.before.before.location.ensures) at on.if-is_within.true in
     simp (h) c.new.ensures)
     (λ c. let off = c.before in
-    let h = simp (off.before.is_Within.ensures, off.before.before.location.ensures) at off.if-is_within.false in
+    let h = simp (off.before.is_within.ensures, off.before.before.location.ensures) at off.if-is_within.false in
     simp (h) c.nearer_end.ensures))

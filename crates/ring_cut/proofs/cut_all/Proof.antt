@@ -14,7 +14,7 @@ abbrev decreases-loop : tie.decreases-loop-m
 decreases-loop ps ids₀ classes₀ apart₀ triangles₀ k₀ m₀ t₀ ids classes apart triangles k m t = m
 
 -- From where `list_apart` is called back to the start.
-abbrev start_of : tie.After-list-apart-arg3 invariant-loop decreases-loop → tie.Start invariant-loop decreases-loop
+abbrev start_of : tie.After-list_apart-arg-1 invariant-loop decreases-loop → tie.Start invariant-loop decreases-loop
 start_of c = c.before.before.before.before.before.before.before.before
 
 -- From where `lowest_ear` is done back to the head of the loop.
@@ -47,7 +47,7 @@ returns c =
 put-ear-requires : tie.Need-put_ear-requires invariant-loop decreases-loop
 put-ear-requires c κs =
     let ear = c.before in
-    let going = (head_of ear.before).loop.inv in
+    let going = (head_of ear.before).loop-m.invariant in
     let below = found going.held ear.before.lowest_ear-i.ensures ear.if-i-m.false in
     omega arith
 
@@ -55,7 +55,7 @@ cut-apart-requires : tie.Need-cut_apart-k-requires invariant-loop decreases-loop
 cut-apart-requires c κs =
     let ear = ear-of c in
     let sought = ear.before.lowest_ear-i.ensures in
-    let going = (head_of ear.before).loop.inv in
+    let going = (head_of ear.before).loop-m.invariant in
     let held = going.held in
     let list = going.listing in
     let below = found held sought ear.if-i-m.false in

@@ -28,7 +28,7 @@ copy-numbers-requires : tie.Need-copy_numbers-requires
 copy-numbers-requires c κs =
     let cut = cut_of c.before.before in
     let given = (start_of (whole_of cut)).requires in
-    omega (arith, cut.Cut-all.kept.1.1.1.1.0, given.2, given.3)
+    omega (arith, cut.cut_all.kept.1.1.1.1.0, given.2, given.3)
 
 returns : tie.Need-returns-then-cut_all
 returns c =
@@ -37,13 +37,13 @@ returns c =
     let cut = cut_of tested.before in
     let whole = whole_of cut in
     let given = (start_of whole).requires in
-    all_found given.0 whole.whole_ring.ensures _ _ cut.Cut-all.ensures tested.if-cut_all.true given.2 copied.copy_numbers.ensures
+    all_found given.0 whole.whole_ring.ensures _ _ cut.cut_all.ensures tested.if-cut_all.true given.2 copied.copy_numbers.ensures
 
 returns-2 : tie.Need-returns
 returns-2 c =
     let cut = cut_of c.before in
     let whole = whole_of cut in
-    none_found (start_of whole).requires.0 whole.whole_ring.ensures _ _ cut.Cut-all.ensures c.if-cut_all.false
+    none_found (start_of whole).requires.0 whole.whole_ring.ensures _ _ cut.cut_all.ensures c.if-cut_all.false
 
 pub cut_ring_in_spec : {M : Type 1} → statement M
 cut_ring_in_spec =

@@ -15,7 +15,7 @@ abbrev decreases-loop : tie.decreases-loop-m
 decreases-loop ps ids₀ classes₀ apart₀ k₀ m₀ f₀ ids classes apart k m f = m
 
 -- From where `list_apart` is called back to the start.
-abbrev start_of : tie.After-list-apart-arg3 invariant-loop decreases-loop → tie.Start invariant-loop decreases-loop
+abbrev start_of : tie.After-list_apart-arg-1 invariant-loop decreases-loop → tie.Start invariant-loop decreases-loop
 start_of c = c.before.before.before.before.before.before.before
 
 -- From where `lowest_ear` is done back to the inside of the loop.
@@ -49,7 +49,7 @@ mean-at-requires : tie.Need-mean_at-requires invariant-loop decreases-loop
 mean-at-requires c κs =
     let ear = c in
     let sought = ear.before in
-    let held = (inside_of sought).before.loop.inv.held in
+    let held = (inside_of sought).before.loop-m.invariant.held in
     (indexed held.lent, rw held.sized (found held sought.lowest_ear-i.ensures ear.if-i-m.false), held.lent.few)
 
 returns-2 : tie.Need-returns-then-is_both invariant-loop decreases-loop
@@ -68,7 +68,7 @@ cut-apart-requires : tie.Need-cut_apart-count-requires invariant-loop decreases-
 cut-apart-requires c κs =
     let ear = ear-of c.before.before.before.before in
     let sought = ear.before in
-    let seeking = (inside_of sought).before.loop.inv in
+    let seeking = (inside_of sought).before.loop-m.invariant in
     let held = seeking.held in
     let list = seeking.listing in
     let lowest = sought.lowest_ear-i.ensures in

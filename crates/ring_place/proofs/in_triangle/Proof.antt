@@ -9,4 +9,4 @@ in_triangle_spec =
     tie.close
     (tie.spec
     (λ c κs. search rules) (λ c κs. search rules) (λ c κs. search rules) (λ c κs. search rules)
-    (λ c. let t = c.before.before in simp (c.is_within-3.ensures, c.before.is_within-2.ensures, t.is_Within.ensures, t.before.has_vertex-corner.ensures)))
+    (λ c. let t = c.before.before in simp (c.is_within-3.ensures, c.before.is_within-2.ensures, t.is_within.ensures, t.before.has_vertex-corner.ensures)))

@@ -44,7 +44,7 @@ unfolding room_of
 returns-refused c =
     let put = c.before.before in
     let line = put.before.before.in-Refused.is in
-    (simp line put.Put-refused.ensures.0, simp line put.Put-refused.ensures.1)
+    (simp line put.put_refused.ensures.0, simp line put.put_refused.ensures.1)
 
 returns-refused-at : tie.Need-returns-in-RefusedAt
 unfolding room_of

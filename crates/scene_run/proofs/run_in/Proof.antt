@@ -26,7 +26,7 @@ stepped c = c.before.before.before.before.before.before.before.before
 
 put-line-requires : tie.Need-put_line-written-requires invariant-loop decreases-loop
 put-line-requires c κs =
-    let going = (stepped c).before.before.before.before.loop.invariant in
+    let going = (stepped c).before.before.before.before.loop-r.invariant in
     let good = going.ready.good in
     omega (arith, going.bound, going.room, good.within, good.small, good.few)
 
@@ -34,7 +34,7 @@ returns-text : tie.Need-returns-then-not-goes_on invariant-loop decreases-loop
 returns-text c =
     let asked = c.before in
     let put = asked.before.before.before.put_line-written.ensures in
-    let line = (told asked).Line-of in
+    let line = (told asked).line_of in
     let step = (stepped (told asked)).step-r in
     let store = step.last.1.1 in
     let going = (stepped (told asked)).before.before.before.before.loop-r.invariant in
@@ -48,7 +48,7 @@ loop-less : tie.Need-loop-r-smaller invariant-loop decreases-loop
 loop-less c =
     let asked = c.before.before in
     let put = asked.before.before.before.put_line-written.ensures in
-    let line = (told asked).Line-of in
+    let line = (told asked).line_of in
     let step = (stepped (told asked)).step-r in
     let store = step.last.1.1 in
     let going = (stepped (told asked)).before.before.before.before.loop-r.invariant in
@@ -60,7 +60,7 @@ loop-again : tie.Need-loop-r-preserved invariant-loop decreases-loop
 loop-again c =
     let asked = c.before.before in
     let put = asked.before.before.before.put_line-written.ensures in
-    let line = (told asked).Line-of in
+    let line = (told asked).line_of in
     let step = (stepped (told asked)).step-r in
     let store = step.last.1.1 in
     let going = (stepped (told asked)).before.before.before.before.loop-r.invariant in

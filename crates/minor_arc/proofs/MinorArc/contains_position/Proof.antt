@@ -9,5 +9,5 @@ contains_position_spec =
     (tie.spec
     (λ c κs. tt) (λ c κs. tt) (λ c κs. tt) (λ c κs. tt)
     (λ c. let e = c.before.before.before in
-    simp (← e.before.dot_prod.ensures, ← e.eq_zero.ensures, c.before.before.if-eq_zero.true, c.is_Within.ensures, c.before.location.ensures))
+    simp (← e.before.dot_prod.ensures, ← e.eq_zero.ensures, c.before.before.if-eq_zero.true, c.is_within.ensures, c.before.location.ensures))
     (λ c. simp (← c.before.before.dot_prod.ensures, ← c.before.eq_zero.ensures, c.if-eq_zero.false)))

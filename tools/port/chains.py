@@ -195,10 +195,10 @@ def proof(path, of):
                 env = {lam[1]: start} if lam else {}
             if head:
                 rest = piece[head.end() :]
-                if place and place[2] in places and params and re.fullmatch(r"\s*" + re.escape(params[0]) + r"(\.before)*\s*", rest):
+                if place and place[2] in places and params and re.match(r" " + re.escape(params[0]) + r"(\.before)*\n", rest):
                     k = walk.to_place(start, places[place[2]])
                     if k is not None:
-                        rest = f" {params[0]}{'.before' * k}\n" + ("\n" if rest.endswith("\n\n") else "")
+                        rest = f" {params[0]}{'.before' * k}\n" + rest[rest.index("\n") + 1 :]
                 else:
                     rest = body(walk, rest, env, helpers, results)
                 piece = piece[: head.end()] + rest

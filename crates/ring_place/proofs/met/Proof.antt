@@ -14,7 +14,7 @@ met_spec =
     (λ c κs. search rules) (λ c. search rules) (λ c κs. search rules) (λ c κs. search rules)
     (λ c κs. search rules)
     (λ c. let t = c.before.before.before.before in
-    simp (ne_eqb _ _ t.before.if-i-eq0.false, eq-eqb _ _ c.before.before.before.if-i-n.true, c.new-then-i-n.ensures, c.before.counted.ensures, c.before.before.near_by.ensures, t.near_by.ensures))
+    simp (ne_eqb _ _ t.before.if-i-eq0.false, eq-eqb _ _ c.before.before.before.if-i-n.true, c.new-then-i-n.ensures, c.before.counted.ensures, c.before.before.near_by.ensures, t.near_by-again.ensures))
     (λ c κs. search rules) (λ c κs. search rules)
     (λ c. let t = c.before.before.before in
-    simp (ne_eqb _ _ t.before.if-i-eq0.false, ne_eqb _ _ c.before.before.if-i-n.false, c.new-2.ensures, c.before.counted-2.ensures, t.near_by.ensures)))
+    simp (ne_eqb _ _ t.before.if-i-eq0.false, ne_eqb _ _ c.before.before.if-i-n.false, c.new-2.ensures, c.before.counted-2.ensures, t.near_by-again.ensures)))

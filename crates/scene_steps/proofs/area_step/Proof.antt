@@ -14,8 +14,8 @@ made c = c.before.before.before.before.before.before
 
 area-made-requires : tie.Need-area_made-requires
 area-made-requires c κs =
-    let judged = (fine c).before.before in
-    (judged.before.before.before.before.before.requires, sym (fine c).enum_told-1.given.1 ∙ judged.judge_area.ensures)
+    let judged = (fine c).before in
+    (judged.before.before.before.before.before.requires, sym (fine c).in-Fine.is ∙ judged.judge_area.ensures)
 
 returns-bad : tie.Need-returns-in-Bad
 returns-bad c =
@@ -25,7 +25,7 @@ returns-bad c =
 returns-fine : tie.Need-returns-in-Fine
 returns-fine c =
     let found = fine (made c).before in
-    let judged = found.before.before in
+    let judged = found.before in
     area_fine _ _ judged.before.before.before.before.before.requires judged.judge_area.ensures found.in-Fine.is (made c).area_made.ensures
 
 pub area_step_spec : {M : Type 1} → statement M

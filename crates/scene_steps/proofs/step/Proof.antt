@@ -7,28 +7,28 @@ use Rattle.scene_steps.proofs.step.Tie as tie
 
 -- where the record was found to be of a kind, ahead of that kind's step
 abbrev area-found : tie.After-area_step-arg-in-Area-2-1 → tie.In-Area
-area-found c = c.before.before.before.before
+area-found c = c.before.before.before
 
 abbrev place_found : tie.In-Place → tie.In-Place
-place_found c = c.before.before.before.before
+place_found c = c
 
 abbrev pair_found : tie.In-Pair → tie.In-Pair
-pair_found c = c.before.before.before.before
+pair_found c = c
 
 area-step-requires : tie.Need-area_step-requires
 area-step-requires c κs =
-    let read = (area-found c).before.before in
-    ready_on read.before.before.before.before.before.requires read.read_at.ensures (area-found c).number-1.given.1
+    let read = (area-found c).before in
+    ready_on read.before.before.before.before.before.requires read.read_at.ensures (area-found c).in-Area.is
 
 place-step-requires : tie.Need-place_step-requires
 place-step-requires c κs =
-    let read = (place_found c).before.before in
-    ready_on read.before.before.before.before.before.requires read.read_at.ensures (place_found c).number-in-Place-1.given.1
+    let read = (place_found c).before in
+    ready_on read.before.before.before.before.before.requires read.read_at.ensures (place_found c).in-Place.is
 
 pair-step-requires : tie.Need-pair_step-requires
 pair-step-requires c κs =
-    let read = (pair_found c).before.before in
-    ready_on read.before.before.before.before.before.requires read.read_at.ensures (pair_found c).number-in-Pair-1.given.1
+    let read = (pair_found c).before in
+    ready_on read.before.before.before.before.before.requires read.read_at.ensures (pair_found c).in-Pair.is
 
 returns-end : tie.Need-returns-in-End
 returns-end c = step_is _ _ _ _ _ c.before.read_at.ensures c.in-End.is refl
@@ -40,13 +40,13 @@ abbrev stepped : tie.After-slice_known-in-Area-3-1 → tie.After-area_step
 stepped c = c.before.before.before.before.before.before
 
 returns-area : tie.Need-returns-in-Area
-returns-area c = step_is _ _ _ _ _ (area-found (stepped c).before).before.before.read_at.ensures (area-found (stepped c).before).number-1.given.1 (stepped c).area_step.ensures
+returns-area c = step_is _ _ _ _ _ (area-found (stepped c).before).before.read_at.ensures (area-found (stepped c).before).in-Area.is (stepped c).area_step.ensures
 
 returns-place : tie.Need-returns-in-Place
-returns-place c = step_is _ _ _ _ _ (place_found c.before).before.before.read_at.ensures (place_found c.before).number-in-Place-1.given.1 c.place_step.ensures
+returns-place c = step_is _ _ _ _ _ (place_found c.before).before.read_at.ensures (place_found c.before).in-Place.is c.place_step.ensures
 
 returns-pair : tie.Need-returns-in-Pair
-returns-pair c = step_is _ _ _ _ _ (pair_found c.before).before.before.read_at.ensures (pair_found c.before).number-in-Pair-1.given.1 c.pair_step.ensures
+returns-pair c = step_is _ _ _ _ _ (pair_found c.before).before.read_at.ensures (pair_found c.before).in-Pair.is c.pair_step.ensures
 
 pub step_spec : {M : Type 1} → statement M
 step_spec =

@@ -6,7 +6,7 @@ use Rattle.loop_build.proofs.make.Tie as tie
 
 -- From where `all_both` is done back to where `prepare` is.
 abbrev prepared-of : tie.After-all_both → tie.After-prepare-sum
-prepared-of c = c.before.before.before.before.before.before
+prepared-of c = c.before.before.before.before.before
 
 -- From where `prepare` is done back to the start.
 abbrev start_of : tie.After-prepare-sum → tie.Start

@@ -15,11 +15,11 @@ decreases-loop ps ids₀ classes₀ apart₀ triangles₀ k₀ m₀ t₀ ids cla
 
 -- From where `list_apart` is called back to the start.
 abbrev start_of : tie.After-list_apart-arg-1 invariant-loop decreases-loop → tie.Start invariant-loop decreases-loop
-start_of c = c.before.before.before.before.before.before.before.before
+start_of c = c.before.before.before.before.before.before
 
 -- From where `lowest_ear` is done back to the head of the loop.
 abbrev head_of : tie.After-lowest_ear-i invariant-loop decreases-loop → tie.At-loop-m invariant-loop decreases-loop
-head_of c = c.before.before.before.before.before
+head_of c = c.before.before
 
 -- From where `cut_apart` is called back to where an ear is found, and `put_ear` is yet to be called.
 abbrev ear-of : tie.After-cut_apart-arg-in-loop-m-2-1 invariant-loop decreases-loop → tie.Else-i-m invariant-loop decreases-loop

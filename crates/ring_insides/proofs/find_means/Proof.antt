@@ -16,11 +16,11 @@ decreases-loop ps ids₀ classes₀ apart₀ k₀ m₀ f₀ ids classes apart k 
 
 -- From where `list_apart` is called back to the start.
 abbrev start_of : tie.After-list_apart-arg-1 invariant-loop decreases-loop → tie.Start invariant-loop decreases-loop
-start_of c = c.before.before.before.before.before.before.before
+start_of c = c.before.before.before.before.before
 
 -- From where `lowest_ear` is done back to the inside of the loop.
 abbrev inside_of : tie.After-lowest_ear-i invariant-loop decreases-loop → tie.In-loop-m invariant-loop decreases-loop
-inside_of c = c.before.before.before.before
+inside_of c = c.before
 
 -- From where `is_both` is done back to where an ear is found.
 abbrev ear-of : tie.After-is_both invariant-loop decreases-loop → tie.Else-i-m invariant-loop decreases-loop

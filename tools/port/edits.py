@@ -37,6 +37,10 @@ def spelled(text):
     return TOKEN.sub(lambda m: LENT.get(m[0]) or turn.get(m[0]) or (snake(m[0]) if re.search(r"[a-z][A-Z]", m[0]) and m[0][0].islower() else m[0]), text)
 
 
+def declares(crate, name):
+    return any(re.search(rf"(?m)^\s*(?:pub )?{name} :", read(it)) for it in glob.glob(f"{crate}/proofs/**/*.antt", recursive=True))
+
+
 def nearest(text, whole):
     return difflib.get_close_matches(text, whole.split("\n"), 3, 0.3)
 
@@ -66,7 +70,16 @@ for path in sorted(glob.glob("crates/*/must-fail/*.edit")):
             if texts[file].count(old) == 1:
                 texts[file] = texts[file].replace(old, new)
         elif line.startswith("# breaks theorem "):
-            line = re.sub(r"^# breaks theorem ([^\s:]+):", lambda m: f"# breaks theorem {turn.get(m[1], snake(m[1]))}:", line)
+            theorem = turn.get(line[17:].split(":")[0], snake(line[17:].split(":")[0]))
+            if not theorem.endswith("_lem") and declares(crate, theorem + "_lem"):
+                theorem += "_lem"
+            if not declares(crate, theorem):
+                said.append(f"no theorem {theorem}")
+            line = f"# breaks theorem {theorem}:" + line[17:].partition(":")[2]
+        elif line.startswith("# breaks "):
+            function = line[9:].split(":", 1)[0] if "::" not in line[9:].split(": ")[0] else line[9:].split(": ")[0]
+            if not any(re.search(rf"\bfn {function.split('::')[-1]}\b", read(it)) for it in glob.glob(f"{crate}/src/*.rt")):
+                said.append(f"no function {function}")
         out.append(line)
     if said:
         stale += 1

@@ -7,6 +7,6 @@ pub of_bits_spec : {M : Type 1} → statement M
 of_bits_spec =
     tie.close
     (tie.spec
-    (λ c. no_nan_pattern _ c.if-b-gt9218868437227405312.false)
-    (λ c. nan_pattern _ c.if-b-gt9218868437227405312.true)
+    (λ c. search (rules, no_nan_pattern))
+    (λ c. search (rules, nan_pattern))
     (λ c. search rules))

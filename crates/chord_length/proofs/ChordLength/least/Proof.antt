@@ -1,4 +1,5 @@
 -- The second of two where it is below the first.
+use borrow.Author.Rules.{rules}
 use Rattle.chord_length.specs.Chords.{least}
 use Rattle.chord_length.proofs.ChordLength.least.Statement.{statement}
 use Rattle.chord_length.proofs.ChordLength.least.Tie as tie
@@ -8,5 +9,5 @@ unfolding least
 least_spec =
     tie.close
     (tie.spec
-    (λ c. simp c.if-o-self.true)
-    (λ c. simp c.if-o-self.false))
+    (λ c. search rules)
+    (λ c. search rules))

@@ -9,5 +9,5 @@ unfolding area_at
 area_at_spec =
     tie.close
     (tie.spec
-    (λ c. simp (ne_eqb _ _ c.if-len-ne2.true)) (λ c. search rules) (λ c κs. search rules)
+    (λ c. search (rules, ne_eqb)) (λ c. search rules) (λ c κs. search rules)
     (λ c. simp (eq-eqb _ _ c.before.if-len-ne2.false, c.number_at.ensures)))

@@ -10,5 +10,5 @@ unfolding place_at
 place_at_spec =
     tie.close
     (tie.spec
-    (λ c. simp (ne_eqb _ _ c.if-len-ne26.true)) (λ c. search rules) (λ c κs. search rules)
+    (λ c. search (rules, ne_eqb)) (λ c. search rules) (λ c κs. search rules)
     (λ c. simp (eq-eqb _ _ c.before.if-len-ne26.false, c.number_at.ensures)))

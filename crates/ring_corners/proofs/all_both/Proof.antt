@@ -24,8 +24,8 @@ all_both_spec =
     invariant-loop decreases-loop
     (λ c. any)
     (λ c. search rules)
-    (λ c. rw (← any_hit c.before.before.before.loop-k.invariant refl (omega arith) (rw (ne_eqb _ _ c.if-classes-k-ne2.true))))
+    (λ c. rw (← any_hit c.before.before.before.loop-k.invariant refl (omega arith) (search (rules, ne_eqb))))
     (λ c. search rules)
     (λ c. search rules)
-    (λ c. any_on c.before.before.before.loop-k.invariant refl (omega arith) (rw (eq-eqb _ _ c.if-classes-k-ne2.false)))
+    (λ c. any_on c.before.before.before.loop-k.invariant refl (omega arith) (search (rules, eq-eqb)))
     (λ c. rw (← any_end c.before.loop-k.invariant (omega arith))))

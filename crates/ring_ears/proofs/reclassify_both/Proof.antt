@@ -1,6 +1,8 @@
 -- Above three, the corner at the cut and then the one before it are classed afresh, and the answer is whether one changed; else nothing is done.
 use native.Mathlib.Omega.{arith}
 use borrow.Author.Tests.{lt-ltb, le-ltb}
+use Prim.Native.Nat.{◌<◌, ◌≤◌}
+use lib.ListN.{length}
 use Rattle.ring_ears.proofs.Indexes.{relent, before_at_cut}
 use Rattle.ring_ears.specs.Ears.{reclassify_both}
 use Rattle.ring_ears.specs.Changes.{one_changed}
@@ -25,26 +27,20 @@ reclassify-requires-2 c κs =
     let wrap = back.before in
     (relent (start_of wrap).requires.0 first.reclassify-a.auto.classes, omega (arith, back.previous-before_cut.ensures.1, wrap.wrapped-at_cut.ensures.1))
 
-returns : tie.Need-returns-then-m-gt3
+pub reclassify_both_spec : {M : Type 1} → statement M
 unfolding reclassify_both one_changed
-returns c =
-    let second = c.before.before in
+reclassify_both_spec =
+    tie.close
+    (tie.spec (λ c κs. search rules) previous-requires reclassify-requires reclassify-requires-2 (λ c. search rules)
+    (λ c. let second = c.before.before in
     let first = second.before.before.before.before in
     let back = first.before.before in
     let wrap = back.before in
-    let above = wrap.before.if-m-gt3.true in
+    let above : 3 < length (start_of wrap).args.ids.now = omega arith in
     let same = before_at_cut (start_of wrap).args.i above in
     let index = back.previous-before_cut.ensures.0 in
     let after = wrap.wrapped-at_cut.ensures.0 in
     let one = first.reclassify-a.ensures in
     let two = second.reclassify-b.ensures in
-    (rw (two.0, index, one.0, after, same, lt-ltb 3 _ above), rw (two.1, index, one.1, one.0, after, same, lt-ltb 3 _ above))
-
-returns-2 : tie.Need-returns
-unfolding reclassify_both one_changed
-returns-2 c = let few = le-ltb 3 _ c.if-m-gt3.false in (rw few, rw few)
-
-pub reclassify_both_spec : {M : Type 1} → statement M
-reclassify_both_spec =
-    tie.close
-    (tie.spec (λ c κs. search rules) previous-requires reclassify-requires reclassify-requires-2 (λ c. search rules) returns returns-2)
+    (rw (two.0, index, one.0, after, same, lt-ltb 3 _ above), rw (two.1, index, one.1, one.0, after, same, lt-ltb 3 _ above)))
+    (λ c. let few : length c.before.args.ids.now ≤ 3 = omega arith in (rw (le-ltb 3 _ few), rw (le-ltb 3 _ few))))

@@ -28,7 +28,7 @@ copy-numbers-requires : tie.Need-copy_numbers-requires
 copy-numbers-requires c κs =
     let cut = cut_of c.before.before in
     let given = (start_of (whole_of cut)).requires in
-    omega (arith, cut.cut_all.kept.1.1.1.1.0, given.2, given.3)
+    omega (arith, cut.cut_all.auto.triangles, given.2, given.3)
 
 returns : tie.Need-returns-then-cut_all
 returns c =

@@ -23,13 +23,22 @@ for path in texts(top):
         if not at.startswith("Rattle"):
             for n in re.split(r"[,\s]+", names):
                 lent.setdefault(snake(n), set()).add(path)
-falling = {n for n in found if "-" in n and n[0].islower() and (snake(n) in plain or lent.get(snake(n), set()) & found[n])}
+dashed = [n for n in found if "-" in n and n[0].islower()]
+falling = {n for n in dashed if snake(n) in plain}
+
+
+def crate(path):
+    return re.search(r"crates/([^/]+)/", path)[1]
+
+
+# what falls together with a name of the library is turned in its own crate alone
+by_library = {(n, crate(p)) for n in dashed for p in lent.get(snake(n), set()) & found[n]}
 
 
 def turned(path, text):
     def one(m):
         name = m[0]
-        if name not in falling:
+        if name not in falling and (name, crate(path)) not in by_library:
             return name
         before = text[max(0, m.start() - 2) : m.start()]
         # a step that Rattle named after a call, as in `c .first-refused .ensures`
@@ -48,4 +57,4 @@ for path in texts(top):
     if text != old:
         with open(path, "w", encoding="utf-8") as f:
             f.write(text)
-print("fall together, so the dashed one got -lem:", " ".join(sorted(falling)))
+print("fall together, so the dashed one got -lem:", " ".join(sorted(falling | {n for n, _ in by_library})))

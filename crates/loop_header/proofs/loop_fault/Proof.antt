@@ -1,6 +1,5 @@
 -- The first fault is told: of the shape, of the normals' size, of the ring, and then of the normals and the header's other vectors.
 use native.Mathlib.Omega.{arith}
-use borrow.Author.Tests.{not-true, not-false}
 use Rattle.loop_header.proofs.Shapes.{shape, threes_length}
 use Rattle.loop_header.specs.Loops.{loop_fault}
 use mathlib.Core.Path.{sym, ◌∙◌}
@@ -18,7 +17,7 @@ unfolding loop_fault
 returns-2 c =
     let sized = c.before in
     let shaped = sized.before in
-    simp (← shaped.before.shape_fault-f.ensures, shaped.if-f-ne0.false, ← sized.threes.ensures, not-true sized.threes.result c.if-not-threes.true)
+    simp (← shaped.before.shape_fault-f.ensures, shaped.if-f-ne0.false, ← sized.threes.ensures, c.if-not-threes.true)
 
 ring-fault-requires : tie.Need-ring_fault-g-requires
 ring-fault-requires c κs =
@@ -37,7 +36,7 @@ returns-3 c =
       ← shaped.before.shape_fault-f.ensures,
       shaped.if-f-ne0.false,
       ← sized.threes.ensures,
-      not-false sized.threes.result fit.if-not-threes.false,
+      fit.if-not-threes.false,
       ← ring.ring_fault-g.ensures,
     )
     (sym (first_hit _ _ c.if-g-ne0.true))
@@ -46,7 +45,7 @@ vectors-fault-requires : tie.Need-vectors_fault-requires
 vectors-fault-requires c κs =
     let fit = c.before.before in
     let sized = fit.before in
-    omega (arith, threes_length _ _ (sym sized.threes.ensures ∙ not-false sized.threes.result fit.if-not-threes.false))
+    omega (arith, threes_length _ _ (sym sized.threes.ensures ∙ fit.if-not-threes.false))
 
 returns-4 : tie.Need-returns
 unfolding loop_fault
@@ -60,7 +59,7 @@ returns-4 c =
       ← shaped.before.shape_fault-f.ensures,
       shaped.if-f-ne0.false,
       ← sized.threes.ensures,
-      not-false sized.threes.result fit.if-not-threes.false,
+      fit.if-not-threes.false,
       ← ring.ring_fault-g.ensures,
       good.if-g-ne0.false,
       c.vectors_fault.ensures,

@@ -4,7 +4,6 @@ use mathlib.Core.Path.{sym, ◌∙◌}
 use Rattle.arc_relations.proofs.Missing.{missed_disjoint}
 use Rattle.ring_edges.specs.Edges.{edge_at}
 use Rattle.ring_edges.specs.Blocks.{candidate_at}
-use Rattle.ring_pair.proofs.Clearing.{not_so}
 use Rattle.ring_pair.proofs.relation_at.Statement.{statement}
 use Rattle.ring_pair.proofs.relation_at.Tie as tie
 
@@ -15,7 +14,7 @@ returns c =
     let missing = compared.before in
     let asked = missing.before in
     missed_disjoint _ _ _ asked.before.before.before.requires.4 (sym asked.misses.ensures ∙ missing.if-misses.true)
-    (sym compared.equals.ensures ∙ not_so compared.equals.result c.if-not-equals.true)
+    (sym compared.equals.ensures ∙ c.if-not-equals.true)
 
 relate-at-requires : tie.Need-relate_at-requires
 unfolding edge_at candidate_at

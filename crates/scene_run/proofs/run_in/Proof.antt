@@ -3,7 +3,6 @@ use Prim.Native.Nat.{◌-◌}
 use native.Mathlib.Omega.{arith}
 use lib.ListN.{length}
 use borrow.Author.Rules.{rules}
-use borrow.Author.Tests.{not-true, not-false}
 use Rattle.scene_lines.proofs.Rooms.{longest}
 use Rattle.scene_steps.proofs.Outcomes.{told_step_lem, kept_step}
 use Rattle.scene_run.proofs.Runs.{Going, begin, ends, after, on}
@@ -40,7 +39,7 @@ returns-text c =
     let going = (stepped (told asked)).before.before.before.before.loop-r.invariant in
     let good = going.ready.good in (
       ends going step.result store.0 store.1.0 store.1.1.0 (told_step_lem _ _ _ _ _ step.ensures) line.ensures put.0
-          asked.goes_on.ensures (not-true asked.goes_on.result c.if-not-goes_on.true),
+          asked.goes_on.ensures c.if-not-goes_on.true,
       omega (arith, put.1, longest line.result, going.bound, good.within, good.small, good.few),
     )
 
@@ -53,7 +52,7 @@ loop-less c =
     let store = step.last.1.1 in
     let going = (stepped (told asked)).before.before.before.before.loop-r.invariant in
     let onward = after going step.result store.0 store.1.0 store.1.1.0 (told_step_lem _ _ _ _ _ step.ensures) line.ensures put.0
-    asked.goes_on.ensures (not-false asked.goes_on.result c.before.if-not-goes_on.false) in
+    asked.goes_on.ensures c.before.if-not-goes_on.false in
     omega (arith, onward.forth, onward.good.within)
 
 loop-again : tie.Need-loop-r-preserved invariant-loop decreases-loop
@@ -65,7 +64,7 @@ loop-again c =
     let store = step.last.1.1 in
     let going = (stepped (told asked)).before.before.before.before.loop-r.invariant in
     on going step.result store.0 store.1.0 store.1.1.0 (told_step_lem _ _ _ _ _ step.ensures) line.ensures put.0
-    asked.goes_on.ensures (not-false asked.goes_on.result c.before.if-not-goes_on.false)
+    asked.goes_on.ensures c.before.if-not-goes_on.false
     (kept_step _ _ _ _ _ step.ensures going.ready) put.1 (search rules) (search rules) (search rules) (search rules)
 
 pub run_in_spec : {M : Type 1} → statement M

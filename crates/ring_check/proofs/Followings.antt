@@ -7,7 +7,7 @@ use native.Mathlib.Omega.{arith}
 use lib.Ieee.{Float}
 use lib.ListN.{length, take, drop, get_or}
 use lib.Seq.{take-length}
-use borrow.Author.Tests.{ltb-true, not-true, not-false}
+use borrow.Author.Tests.{ltb-true}
 use Rattle.laws.proofs.Loops.{first_at_le}
 use Rattle.ring_ears.specs.Ears.{Lent, Remaining, cut_at, cut_in}
 use Rattle.ring_cut.specs.Cut.{whole_ring}
@@ -62,18 +62,18 @@ module _ {ps : List Float} {ids₀ classes₀ tris ids classes : List ℕ} {m t 
     one_less : m - 3 ≡ suc (m - 1 - 3)
     one_less = omega arith
 
-    pub off : not b ≡ true → false ≡ accepts_from ps (record { ids = ids₀; classes = classes₀ }) tris
+    pub off : b ≡ false → false ≡ accepts_from ps (record { ids = ids₀; classes = classes₀ }) tris
     off n =
-        let z : fits_at ps (left ids classes m) i (get_or tris (3 * t) 0) (get_or tris (3 * t + 2) 0) ≡ false = sym f ∙ not-true b n in
+        let z : fits_at ps (left ids classes m) i (get_or tris (3 * t) 0) (get_or tris (3 * t + 2) 0) ≡ false = sym f ∙ n in
         sym (g.rest ∙ rw (one_less, triple tris t room) (accepts_off ps (m - 1 - 3) (left ids classes m) _ _ _ (drop (3 * (t + 1)) tris) e z))
 
-    fits : not b ≡ false → fits_at ps (left ids classes m) i (get_or tris (3 * t) 0) (get_or tris (3 * t + 2) 0) ≡ true
-    fits n = sym f ∙ not-false b n
+    fits : b ≡ true → fits_at ps (left ids classes m) i (get_or tris (3 * t) 0) (get_or tris (3 * t + 2) 0) ≡ true
+    fits n = sym f ∙ n
 
-    pub index : not b ≡ false → i < length (take m ids)
+    pub index : b ≡ true → i < length (take m ids)
     index n = fits_index ps (left ids classes m) i _ _ (fits n)
 
-    module _ (n : not b ≡ false) {ids' classes' part : List ℕ} (q : ids' ≡ part ++ drop m ids) (p : record { ids = part; classes = classes' } ≡ cut_in ps (left ids classes m) i)
+    module _ (n : b ≡ true) {ids' classes' part : List ℕ} (q : ids' ≡ part ++ drop m ids) (p : record { ids = part; classes = classes' } ≡ cut_in ps (left ids classes m) i)
         (kept : length part ≡ length (take m ids)) (also : length classes' ≡ length classes) where
       pub cut : Following ps ids₀ classes₀ tris ids' classes' (m - 1) (t + 1)
       cut =

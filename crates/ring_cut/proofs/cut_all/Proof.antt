@@ -73,7 +73,7 @@ loop-again c =
     let at-put = at_cut_lem.before.before.before.before.before.before in
     let ear = ear-of at_cut_lem.before in
     let sought = ear.before in
-    let inside = sought.before.before.before.before in
+    let inside = sought.before in
     let done = at_cut_lem.cut_apart-k in
     cut
     inside.before.loop-m.invariant inside.loop-m-test.true

@@ -35,10 +35,9 @@ returns-text c =
     let put = asked.before.before.before.put_line-written.ensures in
     let line = (told asked).line_of in
     let step = (stepped (told asked)).step-r in
-    let store = step.last.1.1 in
     let going = (stepped (told asked)).before.before.before.before.loop-r.invariant in
     let good = going.ready.good in (
-      ends going step.result store.0 store.1.0 store.1.1.0 (told_step_lem _ _ _ _ _ step.ensures) line.ensures put.0
+      ends going step.result step.new.positions step.new.normals step.new.classes (told_step_lem _ _ _ _ _ step.ensures) line.ensures put.0
           asked.goes_on.ensures c.if-not-goes_on.true,
       omega (arith, put.1, longest line.result, going.bound, good.within, good.small, good.few),
     )
@@ -49,9 +48,8 @@ loop-less c =
     let put = asked.before.before.before.put_line-written.ensures in
     let line = (told asked).line_of in
     let step = (stepped (told asked)).step-r in
-    let store = step.last.1.1 in
     let going = (stepped (told asked)).before.before.before.before.loop-r.invariant in
-    let onward = after going step.result store.0 store.1.0 store.1.1.0 (told_step_lem _ _ _ _ _ step.ensures) line.ensures put.0
+    let onward = after going step.result step.new.positions step.new.normals step.new.classes (told_step_lem _ _ _ _ _ step.ensures) line.ensures put.0
     asked.goes_on.ensures c.before.if-not-goes_on.false in
     omega (arith, onward.forth, onward.good.within)
 
@@ -61,9 +59,8 @@ loop-again c =
     let put = asked.before.before.before.put_line-written.ensures in
     let line = (told asked).line_of in
     let step = (stepped (told asked)).step-r in
-    let store = step.last.1.1 in
     let going = (stepped (told asked)).before.before.before.before.loop-r.invariant in
-    on going step.result store.0 store.1.0 store.1.1.0 (told_step_lem _ _ _ _ _ step.ensures) line.ensures put.0
+    on going step.result step.new.positions step.new.normals step.new.classes (told_step_lem _ _ _ _ _ step.ensures) line.ensures put.0
     asked.goes_on.ensures c.before.if-not-goes_on.false
     (kept_step _ _ _ _ _ step.ensures going.ready) put.1 (search rules) (search rules) (search rules) (search rules)
 

@@ -13,7 +13,7 @@ returns c =
     let state = cap.before in
     let count = state.before.before in
     simp (
-      c.Mode-of.ensures,
+      c.mode_of-mode.ensures,
       long.has_mark.ensures,
       weak.has_mark-weak.ensures,
       reversed.has_mark-reversed.ensures,

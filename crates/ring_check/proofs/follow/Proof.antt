@@ -34,7 +34,7 @@ returns : tie.Need-returns-then-not-is_named invariant-loop decreases-loop
 returns c =
     let asked = c.before in
     let indexed = index_of asked in
-    let inside = indexed.before.before in
+    let inside = indexed.before in
     off inside.before.loop-m.invariant inside.loop-m-test.true indexed.index_at-i.ensures asked.is_named.ensures c.if-not-is_named.true
 
 cut-one-requires : tie.Need-cut_one-requires invariant-loop decreases-loop
@@ -42,7 +42,7 @@ cut-one-requires c κs =
     let named = c.before.before in
     let asked = named.before in
     let indexed = index_of asked in
-    let inside = indexed.before.before in
+    let inside = indexed.before in
     let following = inside.before.loop-m.invariant in
     (following.held.lent, index following inside.loop-m-test.true indexed.index_at-i.ensures asked.is_named.ensures named.if-not-is_named.false)
 
@@ -52,7 +52,7 @@ loop-again c =
     let named = at_cut_lem.before.before.before in
     let asked = named.before in
     let indexed = index_of asked in
-    let inside = indexed.before.before in
+    let inside = indexed.before in
     let done = at_cut_lem.cut_one in
     cut
     inside.before.loop-m.invariant inside.loop-m-test.true

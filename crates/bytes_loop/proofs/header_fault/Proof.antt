@@ -1,3 +1,4 @@
+use native.Mathlib.Omega.{arith}
 use borrow.Author.Tests.{lt-ltb, le-ltb}
 use Rattle.bytes_loop.proofs.Faults.{header_wrong, header_state}
 use Rattle.bytes_loop.specs.Layout.{state_fault}
@@ -10,7 +11,7 @@ unfolding state_fault
 header_fault_spec =
     tie.close
     (tie.spec
-    (λ c. header_wrong _ c.if-s-ne-HEADER.true)
+    (λ c. header_wrong _ (λ e. omega arith))
     (λ c. search rules)
-    (λ c. header_state _ c.before.before.if-s-ne-HEADER.false (simp (lt-ltb _ _ c.if-s-gt2.true)))
-    (λ c. header_state _ c.before.before.if-s-ne-HEADER.false (simp (le-ltb _ _ c.if-s-gt2.false))))
+    (λ c. header_state _ (omega arith) (simp (lt-ltb _ _ c.if-s-gt2.true)))
+    (λ c. header_state _ (omega arith) (simp (le-ltb _ _ c.if-s-gt2.false))))

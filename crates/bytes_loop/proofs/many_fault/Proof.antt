@@ -1,3 +1,4 @@
+use native.Mathlib.Omega.{arith}
 use borrow.Author.Tests.{lt-ltb, le-ltb}
 use Rattle.bytes_loop.specs.Layout.{many_fault}
 use borrow.Author.Rules.{rules}
@@ -10,5 +11,5 @@ many_fault_spec =
     tie.close
     (tie.spec
     (λ c κs. search rules) (λ c. search rules) (λ c κs. search rules) (λ c κs. search rules)
-    (λ c. simp (← c.before.before.before.before.count_at.ensures.0, lt-ltb _ _ c.before.before.before.if-count_at-gt512.true, c.large_fault.ensures, c.before.state_of.ensures))
-    (λ c. simp (← c.before.count_at.ensures.0, le-ltb _ _ c.if-count_at-gt512.false)))
+    (λ c. simp (← c.before.before.before.before.count_at.ensures.0, lt-ltb 512 c.before.before.before.before.count_at.result (omega arith), c.large_fault.ensures, c.before.state_of.ensures))
+    (λ c. simp (← c.before.count_at.ensures.0, le-ltb 512 c.before.count_at.result (omega arith))))

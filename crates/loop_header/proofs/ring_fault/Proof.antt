@@ -1,3 +1,4 @@
+use native.Mathlib.Omega.{arith}
 use Rattle.loop_header.specs.Loops.{ring_fault}
 use borrow.Author.Tests.{lt-ltb, le-ltb}
 use mathlib.Core.Path.{sym}
@@ -11,8 +12,8 @@ unfolding ring_fault
 ring_fault_spec =
     tie.close
     (tie.spec
-    (λ c. simp (lt-ltb _ _ c.if-h-gt512.true))
+    (λ c. simp (lt-ltb 512 c.args.h.count (omega arith)))
     (λ c κs. search rules)
-    (λ c. simp (le-ltb _ _ c.before.before.if-h-gt512.false, ← c.before.classes_fault-f.ensures) (sym (first_hit _ _ c.if-f-ne0.true)))
+    (λ c. simp (le-ltb 512 c.args.h.count (omega arith), ← c.before.classes_fault-f.ensures) (sym (first_hit _ _ c.if-f-ne0.true)))
     (λ c κs. search rules)
-    (λ c. simp (le-ltb _ _ c.before.before.before.if-h-gt512.false, ← c.before.before.classes_fault-f.ensures, c.before.if-f-ne0.false, c.positions_fault.ensures)))
+    (λ c. simp (le-ltb 512 c.args.h.count (omega arith), ← c.before.before.classes_fault-f.ensures, c.before.if-f-ne0.false, c.positions_fault.ensures)))

@@ -13,7 +13,7 @@ returns c =
     let compared = c.before in
     let missing = compared.before in
     let asked = missing.before in
-    missed_disjoint _ _ _ asked.before.before.before.requires.4 (sym asked.misses.ensures ∙ missing.if-misses.true)
+    missed_disjoint _ _ _ asked.before.before.before.requires.4 (search rules)
     (sym compared.equals.ensures ∙ c.if-not-equals.true)
 
 relate-at-requires : tie.Need-relate_at-requires

@@ -11,5 +11,5 @@ end_of_spec =
     tie.close
     (tie.spec
     (λ c. search rules)
-    (λ c. (simp (eq-eqb _ _ c.if-i-eq0.true), omega arith, omega arith))
-    (λ c. (simp (ne_eqb _ _ c.if-i-eq0.false), omega arith, omega arith)))
+    (λ c. (simp (eq-eqb c.args.i 0 (omega arith)), omega arith, omega arith))
+    (λ c. (simp (ne_eqb c.args.i 0 (omega arith)), omega arith, omega arith)))

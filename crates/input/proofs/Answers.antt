@@ -1,4 +1,4 @@
--- An answer of the C library's `read` by its sign: as the machine's test tells it, and what it says of the buffer.
+-- The answer of one read by its sign: as the machine's test tells it, and what it says of the buffer.
 use Prim.Native.Nat.{ℕ, ◌≤◌}
 use mathlib.Core.Path.{◌≡◌, refl, sym, subst}
 use mathlib.Core.Bool.{true, false, not}
@@ -13,9 +13,8 @@ use lib.Signed.{◌<ℤ◌, ◌≤ℤ◌, lt_z, lt_z_yes, lt_z_no}
 use mir.Syntax.{w64}
 use mir.Val.{SFits, to_z, of_z}
 use mir.ValLaws.{to_z-of_z}
-use Rattle.libc.specs.Io.{Moved}
 use Rattle.input.specs.declared.Input.TheVariants.{Read, Failed}
-use Rattle.input.specs.Reading.{count_of, ended_of, Within}
+use Rattle.input.specs.Reading.{Moved, count_of, ended_of, Within}
 
 -- what the machine reads back from the bits of an answer is the answer
 pub read_back : {z : ℤ} → SFits w64 z → to_z w64 (of_z w64 z) ≡ z

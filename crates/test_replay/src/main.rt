@@ -5,7 +5,7 @@
 ghost use Rattle.std.specs.Prelude.{◌+◌, ◌*◌, ◌≤◌, ◌<◌, length};
 
 use exports::{floats, loops, minor_arcs};
-use std::io::{Error, ErrorKind, Read, Write};
+use std::io::{Cursor, Error, ErrorKind, Read, Write};
 use std::rt::{Env, Files};
 use std::{fs, io, str};
 
@@ -257,9 +257,14 @@ fn open<F: Files>(rt: &F, path: &[u8]) -> io::Result<F::File> {
     }
 }
 
+// Says on standard error that a file could not be opened, and why: an error's text ends where its number or the room for it begins.
 fn complain(err: &mut impl Write, path: &[u8], error: Error) {
+    let mut room = Cursor::new([0u8; 256]);
+    let _ = write!(room, "{error}\0");
+    let text = str::from_utf8(room.get_ref()).unwrap_or("");
+    let words = text.split_once(" (os error").or(text.split_once('\0'));
     let _ = err.write_all(path);
-    let _ = writeln!(err, ": {error}");
+    let _ = writeln!(err, ": {}", words.map_or("", |w| w.0));
 }
 
 fn replay_file(rt: &impl Files, out: &mut impl Write, err: &mut impl Write, path: &[u8]) {

@@ -44,7 +44,7 @@ fn ended(got: isize, done: usize) -> Input
     Input::Read(done)
 }
 
-// Reads until the buffer is full, the input ends or a read fails.
+// Reads until the buffer is full, the input ends or a read fails. No contract can say which bytes the system put there.
 pub fn read<S: Read>(from: &mut S, buf: &mut [u8]) -> Input
     ensures { R.Within result buf.new }
 {

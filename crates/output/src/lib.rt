@@ -1,4 +1,5 @@
-// Standard output and standard error for every program: a text that could not be written is not passed over.
+// Standard output and standard error for every program: a text that could not be written is not passed over. No contract can say what reaches
+// the system, and these answer nothing, so they have none.
 #![tactic(auto)]
 
 use std::io::Write;

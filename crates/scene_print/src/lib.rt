@@ -6,7 +6,7 @@ ghost use Rattle.scene_run.specs.Run.{scene_text};
 
 use std::io::Write;
 
-// Prints the text of an input, and answers how long it is.
+// Prints the text of an input, and answers how long it is. No contract can say what reaches the system.
 pub fn print(out: &mut impl Write, err: &mut impl Write, input: &[u8]) -> usize
     ensures { result ≡ length (scene_text input.now) }
 {

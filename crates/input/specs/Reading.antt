@@ -3,7 +3,12 @@ use Rattle.std.specs.Prelude.{ℕ, ◌≤◌, ◌≡◌, Bool, false, List, eqb,
 use Rattle.input.specs.declared.Input.{Input}
 use Rattle.input.specs.declared.Input.TheVariants.{Read, Failed}
 
--- how many bytes a call of the C library's `read` put, by its answer
+-- what one read into room for n bytes may answer: -1, or how many bytes it moved, at most n
+abbrev pub Moved : ℕ → ℤ → Type 0
+Moved n (pos k) = k ≤ n
+Moved n (negsuc k) = k ≡ 0
+
+-- how many bytes one read put, by its answer
 abbrev pub count_of : ℤ → ℕ
 count_of (pos k) = k
 count_of (negsuc k) = 0

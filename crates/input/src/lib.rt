@@ -2,10 +2,9 @@
 #![tactic(auto)]
 
 ghost use Rattle.std.specs.Prelude.{◌-◌, ◌≤◌, ◌≡◌, length};
-ghost use Rattle.libc.specs.Io.{Moved};
 ghost use Rattle.input.specs.Reading as R;
 
-use libc::STDIN_FILENO;
+use std::io::Read;
 
 // What reading came to: so many bytes, or a failure, which is not the end of the input.
 #[derive(Clone, Copy)]
@@ -14,12 +13,15 @@ pub enum Input {
     Failed,
 }
 
-// One call of the C library, into the buffer from the offset `done` on.
-fn read_from(buf: &mut [u8], done: usize) -> isize
+// One call of the reader, into the buffer from the offset `done` on: how many bytes it moved, or -1 where it failed.
+fn read_from<S: Read>(from: &mut S, buf: &mut [u8], done: usize) -> isize
     requires { done ≤ length buf.old }
-    ensures { Moved (length buf.old - done) result }
+    ensures { R.Moved (length buf.old - done) result }
 {
-    libc::read(STDIN_FILENO, &mut buf[done..])
+    match from.read(&mut buf[done..]) {
+        Ok(n) => n as isize,
+        Err(_) => -1,
+    }
 }
 
 // How many bytes a call put: none where it failed.
@@ -42,13 +44,13 @@ fn ended(got: isize, done: usize) -> Input
     Input::Read(done)
 }
 
-// Reads until the buffer is full, the input ends or a read fails. No contract can say what a call of the C library put there.
-pub fn read(buf: &mut [u8]) -> Input
+// Reads until the buffer is full, the input ends or a read fails. No contract can say which bytes the system put there.
+pub fn read<S: Read>(from: &mut S, buf: &mut [u8]) -> Input
     ensures { R.Within result buf.new }
 {
     let mut done = 0;
     while done < buf.len() {
-        let got = read_from(buf, done);
+        let got = read_from(from, buf, done);
         let n = count(got);
         if n == 0 {
             return ended(got, done);

@@ -3,12 +3,15 @@
 
 use input::Input;
 
-fn main() {
+fn main(rt: HostRuntime) {
     let mut bytes = [0u8; 65537];
-    match input::read(&mut bytes) {
+    match input::read(&mut rt.stdin(), &mut bytes) {
         Input::Read(n) => {
-            scene_print::print(&bytes[..n]);
+            scene_print::print(&mut rt.stdout(), &mut rt.stderr(), &bytes[..n]);
         }
-        Input::Failed => output::complain(b"scene: standard input could not be read\n"),
+        Input::Failed => output::complain(
+            &mut rt.stderr(),
+            b"scene: standard input could not be read\n",
+        ),
     }
 }

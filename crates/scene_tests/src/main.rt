@@ -4,47 +4,54 @@
 
 ghost use Rattle.std.specs.Prelude.{◌≡◌, ◌≤◌, length, take};
 
-fn read_number() -> usize {
+use std::io::{Read, Write};
+
+fn read_number(from: &mut impl Read) -> usize {
     let mut head = [0u8; 4];
-    if !input::is_whole(input::read(&mut head), 4) {
+    if !input::is_whole(input::read(from, &mut head), 4) {
         return 0;
     }
     wire::u32_at(&head, 0) as usize
 }
 
 // Reads a length and so many bytes, but no more than there is room for; none where they could not be read.
-fn read_part(buf: &mut [u8]) -> usize
+fn read_part(from: &mut impl Read, buf: &mut [u8]) -> usize
     ensures { (result ≤ length buf.new) × (result ≡ length (take result buf.new)) }
 {
-    let size = read_number();
+    let size = read_number(from);
     if buf.len() < size {
         return 0;
     }
-    if !input::is_whole(input::read(&mut buf[..size]), size) {
+    if !input::is_whole(input::read(from, &mut buf[..size]), size) {
         return 0;
     }
     size
 }
 
-fn show_title() {
+fn show_title(from: &mut impl Read, out: &mut impl Write, err: &mut impl Write) {
     let mut title = [0u8; 100];
-    let n = read_part(&mut title);
+    let n = read_part(from, &mut title);
     output::print(
+        out,
+        err,
         &title[..n],
         b"scene_tests: standard output could not be written\n",
     );
 }
 
-fn show_scene() {
+fn show_scene(from: &mut impl Read, out: &mut impl Write, err: &mut impl Write) {
     let mut input = [0u8; 65537];
-    let n = read_part(&mut input);
-    scene_print::print(&input[..n]);
+    let n = read_part(from, &mut input);
+    scene_print::print(out, err, &input[..n]);
 }
 
-fn main() {
-    let count = read_number();
+fn main(rt: HostRuntime) {
+    let mut from = rt.stdin();
+    let mut out = rt.stdout();
+    let mut err = rt.stderr();
+    let count = read_number(&mut from);
     for _ in 0..count {
-        show_title();
-        show_scene();
+        show_title(&mut from, &mut out, &mut err);
+        show_scene(&mut from, &mut out, &mut err);
     }
 }

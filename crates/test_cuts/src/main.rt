@@ -6,123 +6,125 @@ ghost use Rattle.std.specs.Prelude.{◌≡◌, ◌-◌, ◌*◌, ◌≤◌, leng
 ghost use Rattle.ring_cut.specs.Cut.{Ring};
 ghost use Rattle.test_cuts.specs.Bytes.{Bytes};
 
-use libc::STDOUT_FILENO;
+use std::io::{Read, Write};
 use vec3::{Insides, Vec3};
 
-fn print(text: &[u8]) {
-    io::write_all(STDOUT_FILENO, text);
+// A write that fails is passed over, and the next one is tried.
+fn print(out: &mut impl Write, text: &[u8]) {
+    let _ = out.write_all(text);
 }
 
 // A comma stands ahead of each triangle.
-fn print_number(i: usize, number: u16) {
+fn print_number(out: &mut impl Write, i: usize, number: u16) {
     if i % 3 == 0 {
-        print(b",");
+        print(out, b",");
     }
-    print(b" ");
-    io::print_decimal(STDOUT_FILENO, number as u64);
+    print(out, b" ");
+    let _ = write!(out, "{number}");
 }
 
-fn print_triangles(triangles: &[u16]) {
+fn print_triangles(out: &mut impl Write, triangles: &[u16]) {
     for i in 0..triangles.len() {
-        print_number(i, triangles[i]);
+        print_number(out, i, triangles[i]);
     }
 }
 
-fn print_float(x: f64) {
-    print(b" ");
-    io::print_hex(STDOUT_FILENO, wire::to_bits(x), 16);
+fn print_float(out: &mut impl Write, x: f64) {
+    print(out, b" ");
+    let bits = wire::to_bits(x);
+    let _ = write!(out, "{bits:016x}");
 }
 
-fn print_position(v: Vec3) {
-    print_float(v.x);
-    print_float(v.y);
-    print_float(v.z);
+fn print_position(out: &mut impl Write, v: Vec3) {
+    print_float(out, v.x);
+    print_float(out, v.y);
+    print_float(out, v.z);
 }
 
-fn print_insides(insides: Insides) {
+fn print_insides(out: &mut impl Write, insides: Insides) {
     match insides {
-        Insides::Absent => print(b"; no insides\n"),
+        Insides::Absent => print(out, b"; no insides\n"),
         Insides::Two(a, b) => {
-            print(b"; insides");
-            print_position(a);
-            print_position(b);
-            print(b"\n");
+            print(out, b"; insides");
+            print_position(out, a);
+            print_position(out, b);
+            print(out, b"\n");
         }
     }
 }
 
-fn print_verdict(accepted: bool) {
+fn print_verdict(out: &mut impl Write, accepted: bool) {
     if accepted {
-        print(b"; accepted");
+        print(out, b"; accepted");
     } else {
-        print(b"; not accepted");
+        print(out, b"; not accepted");
     }
 }
 
 // A ring with room for its triangles.
-fn print_ring(positions: &[f64], classes: &[u8], triangles: &mut [u16])
+fn print_ring(out: &mut impl Write, positions: &[f64], classes: &[u8], triangles: &mut [u16])
     requires { Ring positions.now classes.now × (length triangles.old ≡ 3 * (length classes.now - 2)) }
 {
     if ring_cut::cut_ring(positions, classes, triangles) {
-        print_triangles(triangles);
-        print_verdict(ring_check::check_list(positions, classes, triangles));
+        print_triangles(out, triangles);
+        print_verdict(out, ring_check::check_list(positions, classes, triangles));
     } else {
-        print(b", no ear");
+        print(out, b", no ear");
     }
-    print_insides(ring_insides::find_insides(positions, classes));
+    print_insides(out, ring_insides::find_insides(positions, classes));
 }
 
-fn cut(positions: &[f64], classes: &[u8])
+fn cut(out: &mut impl Write, positions: &[f64], classes: &[u8])
     requires { Ring positions.now classes.now }
 {
     let size = 3 * (classes.len() - 2);
     let mut triangles = [0u16; 1530];
-    print_ring(positions, classes, &mut triangles[..size]);
+    print_ring(out, positions, classes, &mut triangles[..size]);
 }
 
 // A ring in bytes, with room for its positions.
-fn read_ring(bytes: &[u8], positions: &mut [f64])
+fn read_ring(out: &mut impl Write, bytes: &[u8], positions: &mut [f64])
     requires { Bytes (length bytes.now) (length positions.old) }
 {
     let from = 8 * positions.len();
     wire::read_floats(bytes, 0, positions);
-    cut(positions, &bytes[from..]);
+    cut(out, positions, &bytes[from..]);
 }
 
 // A ring of n corners in bytes.
-fn answer_bytes(n: usize, body: &[u8])
+fn answer_bytes(out: &mut impl Write, n: usize, body: &[u8])
     requires { (3 ≤ n) × (n ≤ 512) × (length body.now ≡ 25 * n) }
 {
-    print(b"ring of ");
-    io::print_decimal(STDOUT_FILENO, n as u64);
+    print(out, b"ring of ");
+    let _ = write!(out, "{n}");
     let size = 3 * n;
     let mut positions = [0.0f64; 1536];
-    read_ring(body, &mut positions[..size]);
+    read_ring(out, body, &mut positions[..size]);
 }
 
 // Reads the bytes of a ring of n corners and answers; false where they are cut short.
-fn answer_in(n: usize, body: &mut [u8]) -> bool
+fn answer_in(from: &mut impl Read, out: &mut impl Write, n: usize, body: &mut [u8]) -> bool
     requires { (3 ≤ n) × (n ≤ 512) × (length body.old ≡ 25 * n) }
 {
-    if !input::is_whole(input::read(body), body.len()) {
+    if !input::is_whole(input::read(from, body), body.len()) {
         return false;
     }
-    answer_bytes(n, body);
+    answer_bytes(out, n, body);
     true
 }
 
-fn answer(n: usize) -> bool
+fn answer(from: &mut impl Read, out: &mut impl Write, n: usize) -> bool
     requires { (3 ≤ n) × (n ≤ 512) }
 {
     let size = 25 * n;
     let mut body = [0u8; 12800];
-    answer_in(n, &mut body[..size])
+    answer_in(from, out, n, &mut body[..size])
 }
 
 // Reads one ring and answers; false at the end, and at a count that no ring has.
-fn answer_one() -> bool {
+fn answer_one(from: &mut impl Read, out: &mut impl Write) -> bool {
     let mut head = [0u8; 2];
-    if !input::is_whole(input::read(&mut head), 2) {
+    if !input::is_whole(input::read(from, &mut head), 2) {
         return false;
     }
     let n = wire::u16_at(&head, 0) as usize;
@@ -132,14 +134,16 @@ fn answer_one() -> bool {
     if n > 512 {
         return false;
     }
-    answer(n)
+    answer(from, out, n)
 }
 
 // The loop counts its iterations down, since nothing says that an input ends.
-fn main() {
+fn main(rt: HostRuntime) {
+    let mut from = rt.stdin();
+    let mut out = rt.stdout();
     let mut iterations = 10000u64;
     while iterations > 0 {
-        if !answer_one() {
+        if !answer_one(&mut from, &mut out) {
             return;
         }
         iterations -= 1;

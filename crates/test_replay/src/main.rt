@@ -5,7 +5,9 @@
 ghost use Rattle.std.specs.Prelude.{◌+◌, ◌*◌, ◌≤◌, ◌<◌, length};
 
 use exports::{floats, loops, minor_arcs};
-use libc::STDOUT_FILENO;
+use std::io::{Cursor, Error, ErrorKind, Read, Write};
+use std::rt::{Env, Files};
+use std::{fs, io, str};
 
 // What came of a record.
 const ENDED: u8 = 0;
@@ -125,7 +127,7 @@ fn agrees(export: u64, value: u64, a: &[u8], b: &[u8], left: &[u8], out: &mut [u
     if answer(export, a, b, out) != value {
         return false;
     }
-    check::same(out, left)
+    *out == *left
 }
 
 // A record's bytes: what is handed in ends at `first` and at `second`, and the rest is the output.
@@ -151,7 +153,7 @@ fn agrees_in(
 
 // Reads a record's bytes, and has them replayed.
 fn replay_in(
-    fd: i32,
+    file: &mut impl Read,
     export: u64,
     value: u64,
     first: usize,
@@ -161,7 +163,7 @@ fn replay_in(
 ) -> u8
     requires { (first ≤ second) × (second ≤ length body.old) }
 {
-    if io::read_full(fd, body) < body.len() {
+    if !input::is_whole(input::read(file, body), body.len()) {
         return DIFFERED;
     }
     if agrees_in(export, value, first, second, body, out) {
@@ -172,7 +174,14 @@ fn replay_in(
 }
 
 // With room for a record's bytes and for its output; a larger one is none of the host's.
-fn replay_body(fd: i32, export: u64, value: u64, first: usize, second: usize, size: usize) -> u8
+fn replay_body(
+    file: &mut impl Read,
+    export: u64,
+    value: u64,
+    first: usize,
+    second: usize,
+    size: usize,
+) -> u8
     requires { (first ≤ second) × (second ≤ size) }
 {
     if size > 4096 {
@@ -182,7 +191,7 @@ fn replay_body(fd: i32, export: u64, value: u64, first: usize, second: usize, si
     let mut body = [0u8; 4096];
     let mut out = [0u8; 4096];
     replay_in(
-        fd,
+        file,
         export,
         value,
         first,
@@ -193,16 +202,16 @@ fn replay_body(fd: i32, export: u64, value: u64, first: usize, second: usize, si
 }
 
 // Reads the head of a record, and has the rest replayed.
-fn replay_one(fd: i32) -> u8 {
+fn replay_one(file: &mut impl Read) -> u8 {
     let mut head = [0u8; 16];
-    if io::read_full(fd, &mut head) < 16 {
+    if !input::is_whole(input::read(file, &mut head), 16) {
         return ENDED;
     }
     let first = wire::u16_at(&head, 2) as usize;
     let second = first + wire::u16_at(&head, 4) as usize;
     let size = second + wire::u16_at(&head, 6) as usize;
     replay_body(
-        fd,
+        file,
         wire::u16_at(&head, 0),
         wire::u64_at(&head, 8),
         first,
@@ -211,11 +220,8 @@ fn replay_one(fd: i32) -> u8 {
     )
 }
 
-fn print(agreed: u64, all: u64) {
-    io::print_decimal(STDOUT_FILENO, agreed);
-    io::write_all(STDOUT_FILENO, b" of ");
-    io::print_decimal(STDOUT_FILENO, all);
-    io::write_all(STDOUT_FILENO, b" agree\n");
+fn print(out: &mut impl Write, agreed: u64, all: u64) {
+    let _ = writeln!(out, "{agreed} of {all} agree");
 }
 
 // One more where the record agreed.
@@ -227,12 +233,12 @@ fn counted(came: u8, agreed: u64) -> u64
 }
 
 // The loop counts its iterations down, since nothing says that a file ends.
-fn replay_all(fd: i32) {
+fn replay_all(file: &mut impl Read, out: &mut impl Write) {
     let mut iterations = 1000000u64;
     let mut agreed = 0u64;
     let mut all = 0u64;
     while iterations > 0 {
-        let came = replay_one(fd);
+        let came = replay_one(file);
         if came == ENDED {
             break;
         }
@@ -240,21 +246,36 @@ fn replay_all(fd: i32) {
         all += 1;
         iterations -= 1;
     }
-    print(agreed, all);
+    print(out, agreed, all);
 }
 
-fn replay_file(path: &[u8]) {
-    let fd = os::open_read(path);
-    if fd < 0 {
-        os::fail(path);
-        return;
+// The library's paths are text.
+fn open<F: Files>(rt: &F, path: &[u8]) -> io::Result<F::File> {
+    match str::from_utf8(path) {
+        Ok(name) => fs::open(rt, name),
+        Err(_) => Err(Error::from(ErrorKind::InvalidFilename)),
     }
-    replay_all(fd);
-    libc::close(fd);
 }
 
-fn main() {
-    let mut path = io::buffer();
-    let length = os::arg(1, &mut path);
-    replay_file(&path[..length]);
+// Says on standard error that a file could not be opened, and why: an error's text ends where its number or the room for it begins.
+fn complain(err: &mut impl Write, path: &[u8], error: Error) {
+    let mut room = Cursor::new([0u8; 256]);
+    let _ = write!(room, "{error}\0");
+    let text = str::from_utf8(room.get_ref()).unwrap_or("");
+    let words = text.split_once(" (os error").or(text.split_once('\0'));
+    let _ = err.write_all(path);
+    let _ = writeln!(err, ": {}", words.map_or("", |w| w.0));
+}
+
+fn replay_file(rt: &impl Files, out: &mut impl Write, err: &mut impl Write, path: &[u8]) {
+    match open(rt, path) {
+        Ok(mut file) => replay_all(&mut file, out),
+        Err(error) => complain(err, path, error),
+    }
+}
+
+fn main(rt: HostRuntime) {
+    let mut path = [0u8; 4096];
+    let length = rt.arg(1, &mut path).unwrap_or(0);
+    replay_file(&rt, &mut rt.stdout(), &mut rt.stderr(), &path[..length]);
 }

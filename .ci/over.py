@@ -35,12 +35,13 @@ def crates():
 class Built:
     """The repository's libraries as they stand built."""
 
-    def __init__(self):
+    def __init__(self, names):
         self.kit, (self.needs, self.static) = kit(), crates()
-        # A library with a stamp is one that `rt check` or `rt lib` built here, maybe of an older text: `rt lib` brings it up to date, or does nothing.
-        for name in self.needs:
-            if os.path.isfile(f'{TOP}/crates/{name}/out/rlib/stamp'):
-                subprocess.run(['rt', 'lib'], cwd=f'{TOP}/crates/{name}', stdout=subprocess.DEVNULL, check=True)
+        # A library with a stamp is one that `rt check` or `rt lib` built here, maybe of an older text: `rt lib` brings it and those below it up to date, or
+        # does nothing.
+        marked = {it for name in names for it in self.below(name) if os.path.isfile(f'{TOP}/crates/{it}/out/rlib/stamp')}
+        for name in sorted(marked - {it for name in marked for it in self.below(name)}):
+            subprocess.run(['rt', 'lib'], cwd=f'{TOP}/crates/{name}', stdout=subprocess.DEVNULL, check=True)
 
     def rlib(self, name):
         return f'{TOP}/crates/{name}/out/rlib/{name}.rlib'
@@ -80,9 +81,10 @@ class Built:
 
 def lib():
     folder = os.getcwd()
-    name, built = os.path.basename(folder), Built()
-    if os.path.dirname(folder) != f'{TOP}/crates' or name not in built.static:
+    name = os.path.basename(folder)
+    if os.path.dirname(folder) != f'{TOP}/crates' or name not in crates()[1]:
         sys.exit('over: go to the folder of a static library')
+    built = Built([name])
     os.makedirs('out', exist_ok=True)
     words = [*built.words(name, 2), '--toolchain', f'{built.kit}/toolchain', '--backend', 'llvm', '-o', f'out/lib{name}.a']
     said, status = built.run('build', words, folder)

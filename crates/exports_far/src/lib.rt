@@ -1,4 +1,5 @@
-// How far, as C-style exports: each is one call. A squared chord is 8 bytes, one float, or its bits; a refusal is 65,536 plus its number.
+// How far, as C-style exports: each is one call. The static library `exports_far_c` exports them. A squared chord is 8 bytes, one float, or its bits; a refusal is
+// 65,536 plus its number.
 #![tactic(auto)]
 
 ghost use Rattle.std.specs.Prelude.{◌≡◌};

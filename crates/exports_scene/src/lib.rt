@@ -1,5 +1,5 @@
-// The run of a scene as a C-style export over bytes: one call, in a crate of its own, for beside the exports on loops it would check in more than 2 GB. A refusal is
-// 2^32 plus its number.
+// The run of a scene as a C-style export over bytes: one call, in a crate of its own, for beside the exports on loops it would check in more than 2 GB. The static
+// library `exports_scene_c` exports it. A refusal is 2^32 plus its number.
 #![tactic(auto)]
 
 ghost use Rattle.std.specs.Prelude.{◌≡◌};

@@ -1,4 +1,5 @@
-// Probes for runs beside the Rust: each leaf by its number, over raw floats, as C-style exports of a library that is not shipped.
+// Probes for runs beside the Rust: each leaf by its number, over raw floats, as C-style exports. The static library `test_probes_c`, which is not shipped, exports
+// them.
 #![tactic(auto)]
 
 ghost use Rattle.std.specs.Prelude.{◌≡◌};

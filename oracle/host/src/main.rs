@@ -178,7 +178,7 @@ fn compare(group: &str, n: usize, seed: u64) -> bool {
         eprintln!("no group {group}");
         std::process::exit(2);
     }
-    println!("the port is {}", Port::open(&stub()).map_or("target/bin/scene alone", |p| p.name()));
+    println!("the port is {}", Port::open(&stub()).map_or("crates/scene/out/scene alone", |p| p.name()));
     names.iter().filter(|g| !run(g, n, seed)).count() == 0
 }
 

@@ -1,4 +1,4 @@
-//! The two ways to the port: linked into this program (x86-64), or through the stub under the kit's emulator.
+//! The two ways to the port: linked into this program (x86-64), or through the stub, elsewhere under an emulator.
 use crate::calls::{Answer, Arg, Call, Export, blank, by_link};
 use std::io::{Read, Write};
 use std::path::{Path, PathBuf};
@@ -12,18 +12,20 @@ pub enum Port {
     Piped(Child),
 }
 
-/// The kit's emulator for x86-64, beside its compiler; none where the machine needs none.
+/// An emulator for x86-64 programs, qemu's, found on the path; none where the machine needs none.
 pub fn emulator() -> Option<PathBuf> {
-    let home = match std::env::var_os("RATTLE_HOME") {
-        Some(home) => PathBuf::from(home),
-        None => {
-            let path = std::env::var_os("PATH")?;
-            let rt = std::env::split_paths(&path).map(|d| d.join("rt")).find(|f| f.is_file())?;
-            std::fs::canonicalize(rt).ok()?.parent()?.parent()?.to_path_buf()
-        }
-    };
-    let at = home.join("on").join(std::env::consts::ARCH).join("toolchain/bin/qemu-x86_64");
-    at.is_file().then_some(at)
+    if cfg!(target_arch = "x86_64") {
+        return None;
+    }
+    let path = std::env::var_os("PATH")?;
+    std::env::split_paths(&path).map(|d| d.join("qemu-x86_64")).find(|f| f.is_file())
+}
+
+/// The kit's folder, which holds a loader and a C library for the programs: that of the `rt` on the path.
+pub fn kit() -> Option<PathBuf> {
+    let path = std::env::var_os("PATH")?;
+    let rt = std::env::split_paths(&path).map(|d| d.join("rt")).find(|f| f.is_file())?;
+    Some(std::fs::canonicalize(rt).ok()?.parent()?.parent()?.to_path_buf())
 }
 
 /// Whether the program is x86-64 code, by its ELF header.

@@ -1,6 +1,6 @@
 //! Runs over scenes: the export beside the model, and the program `scene` itself.
 use crate::calls::{Answer, Arg, Call, Export, blank};
-use crate::port::emulator;
+use crate::port::kit;
 use crate::random::Random;
 use crate::records::{every_byte, scene};
 use crate::tally::Tally;
@@ -83,36 +83,22 @@ pub fn put(t: &mut Tally, r: &mut Random, bytes: Vec<u8>, text: &str) {
     call(bytes, text.len() + more);
 }
 
-/// The program itself: `target/bin/scene` under the kit's loader.
+/// The program itself: `crates/scene/out/scene` under the kit's loader.
 pub struct Program {
     bin: PathBuf,
     lib: PathBuf,
-    emulator: Option<PathBuf>,
 }
 
 impl Program {
+    /// Nothing where it is not built, or there is no kit.
     pub fn find(root: &Path) -> Option<Program> {
-        let bin = root.join("target/bin/scene");
-        let emulator = emulator();
-        let lib = match &emulator {
-            Some(e) => e.parent()?.parent()?.join("lib"),
-            None => {
-                PathBuf::from(std::env::var_os("RATTLE_HOME").unwrap_or("/opt/rattle".into())).join("toolchain/lib")
-            }
-        };
-        bin.is_file().then_some(Program { bin, lib, emulator })
+        let bin = root.join("crates/scene/out/scene");
+        let lib = kit()?.join("toolchain/lib");
+        bin.is_file().then_some(Program { bin, lib })
     }
 
     pub fn run(&self, input: &[u8]) -> Vec<u8> {
-        let loader = self.lib.join("ld-linux-x86-64.so.2");
-        let mut c = match &self.emulator {
-            Some(e) => {
-                let mut c = Command::new(e);
-                c.arg(loader);
-                c
-            }
-            None => Command::new(loader),
-        };
+        let mut c = Command::new(self.lib.join("ld-linux-x86-64.so.2"));
         c.arg("--library-path").arg(&self.lib).arg(&self.bin);
         let mut child =
             c.stdin(Stdio::piped()).stdout(Stdio::piped()).stderr(Stdio::null()).spawn().expect("scene starts");
@@ -134,7 +120,7 @@ impl Program {
         if out != text.as_bytes() {
             let call = Call { export: Export::Scene, args: vec![Arg::Bytes(bytes.to_vec())] };
             let answer = |out: &[u8]| Answer { value: out.len() as u64, outs: Vec::new() };
-            if t.differ(&call, "by target/bin/scene", &answer(text.as_bytes()), &answer(&out)) {
+            if t.differ(&call, "by crates/scene/out/scene", &answer(text.as_bytes()), &answer(&out)) {
                 println!("  expected:\n{text}  got:\n{}", String::from_utf8_lossy(&out));
             }
         }

@@ -21,6 +21,6 @@ pub put_end_spec : {M : Type 1} → statement M
 put_end_spec =
     tie.close
     (tie.spec
-    (λ c. search rules) (λ c κs. search rules) (λ c κs. search rules) (λ c. search rules) (λ c κs. search rules)
+    (λ c κs. search rules) (λ c κs. search rules) (λ c κs. search rules)
     (λ c. search rules)
     returns-line)

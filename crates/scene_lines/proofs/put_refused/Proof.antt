@@ -16,4 +16,4 @@ returns-line c =
     (then words.0 end, omega arith)
 
 pub put_refused_spec : {M : Type 1} → statement M
-put_refused_spec = tie.close (tie.spec (λ c κs. search rules) (λ c. search rules) (λ c κs. search rules) (λ c. search rules) returns-line)
+put_refused_spec = tie.close (tie.spec (λ c κs. search rules) (λ c κs. search rules) (λ c. search rules) returns-line)

@@ -23,6 +23,6 @@ pub put_refused_at_spec : {M : Type 1} → statement M
 put_refused_at_spec =
     tie.close
     (tie.spec
-    (λ c κs. search rules) (λ c. search rules) (λ c κs. search rules) (λ c κs. search rules) (λ c. search rules)
+    (λ c κs. search rules) (λ c κs. search rules) (λ c κs. search rules)
     (λ c κs. search rules) (λ c. search rules)
     returns-line)

@@ -14,7 +14,7 @@ returns-place : tie.Need-returns
 unfolding said_in
 returns-place c =
     let asked = c.before in
-    simp (asked.before.if-far.false, ← asked.IsPlace-in.ensures, c.place_said.ensures)
+    simp (asked.before.if-far.false, ← asked.place_in.ensures, c.place_said.ensures)
 
 pub said_in_spec : {M : Type 1} → statement M
 said_in_spec =

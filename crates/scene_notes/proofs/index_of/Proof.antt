@@ -19,7 +19,7 @@ decreases-loop number met areas i₀ i = met - i
 loop-holds : tie.Need-loop-i-init invariant-loop decreases-loop
 loop-holds c =
     let start = c.before in
-    let fits : start.args.c.met ≤ length start.args.c.areas-1 = omega (arith, start.requires.size, start.requires.few) in
+    let fits : start.args.c.met ≤ length start.args.c.areas = omega (arith, start.requires.size, start.requires.few) in
     (start.requires.few, fits, looks _ _ _ fits)
 
 returns-found : tie.Need-returns-then-areas-i invariant-loop decreases-loop

@@ -23,7 +23,7 @@ returns-many-areas c =
     let numbered = looked.before in
     let number = ne_eqb _ _ numbered.if-number-eq0.false in
     let count = met_count _ numbered.before.before.requires.0 in
-    simp (number, ← looked.index_of.ensures.0, count, le-ltb _ _ new.if2.false, le-leb _ _ c.if-c-ge16.true)
+    simp (number, ← looked.index_of.ensures.0, count, le-ltb _ _ new.if-index_of-c.false, le-leb _ _ c.if-c-ge16.true)
 
 returns-many-positions : tie.Need-returns-then-c-count-gt1024
 unfolding judge_area
@@ -34,7 +34,7 @@ returns-many-positions c =
     let numbered = looked.before in
     let number = ne_eqb _ _ numbered.if-number-eq0.false in
     let count = met_count _ numbered.before.before.requires.0 in
-    simp (number, ← looked.index_of.ensures.0, count, le-ltb _ _ new.if2.false, lt-leb _ _ few.if-c-ge16.false, lt-ltb _ _ c.if-c-count-gt1024.true)
+    simp (number, ← looked.index_of.ensures.0, count, le-ltb _ _ new.if-index_of-c.false, lt-leb _ _ few.if-c-ge16.false, lt-ltb _ _ c.if-c-count-gt1024.true)
 
 returns-fine : tie.Need-returns
 unfolding judge_area
@@ -45,7 +45,7 @@ returns-fine c =
     let numbered = looked.before in
     let number = ne_eqb _ _ numbered.if-number-eq0.false in
     let count = met_count _ numbered.before.before.requires.0 in
-    simp (number, ← looked.index_of.ensures.0, count, le-ltb _ _ new.if2.false, lt-leb _ _ few.if-c-ge16.false, le-ltb _ _ c.if-c-count-gt1024.false)
+    simp (number, ← looked.index_of.ensures.0, count, le-ltb _ _ new.if-index_of-c.false, lt-leb _ _ few.if-c-ge16.false, le-ltb _ _ c.if-c-count-gt1024.false)
 
 pub judge_area_spec : {M : Type 1} → statement M
 unfolding judge_area

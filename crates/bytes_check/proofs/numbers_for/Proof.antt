@@ -7,5 +7,5 @@ pub numbers_for_spec : {M : Type 1} → statement M
 numbers_for_spec =
     tie.close
     (tie.spec
-    (λ c. (read_all _ c.if-size-lt1533.true, (omega arith, omega arith)))
-    (λ c. (read_some _ c.if-size-lt1533.false, (omega arith, omega arith))))
+    (λ c. (read_all c.args.size (omega arith), (omega arith, omega arith)))
+    (λ c. (read_some c.args.size (omega arith), (omega arith, omega arith))))

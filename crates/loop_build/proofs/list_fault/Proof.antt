@@ -1,3 +1,6 @@
+use native.Mathlib.Omega.{arith}
+use Prim.Native.Nat.{◌%◌}
+use lib.ListN.{length}
 use borrow.Author.Tests.{eq-eqb, ne_eqb, lt-ltb, le-ltb}
 use Rattle.loop_build.specs.Build.{list_fault}
 use borrow.Author.Rules.{rules}
@@ -9,7 +12,7 @@ unfolding list_fault
 list_fault_spec =
     tie.close
     (tie.spec
-    (λ c. simp (ne_eqb _ _ c.if-list-ne0.true))
-    (λ c. simp (eq-eqb _ _ c.before.if-list-ne0.false, lt-ltb _ _ c.if-m-gt512.true))
+    (λ c. simp (ne_eqb (length c.args.list.now % 3) 0 (omega arith)))
+    (λ c. simp (eq-eqb (length c.args.list.now % 3) 0 (omega arith), lt-ltb _ _ c.if-m-gt512.true))
     (λ c κs. search rules)
-    (λ c. simp (eq-eqb _ _ c.before.before.if-list-ne0.false, le-ltb _ _ c.before.if-m-gt512.false, c.positions_fault.ensures)))
+    (λ c. simp (eq-eqb (length c.args.list.now % 3) 0 (omega arith), le-ltb _ _ c.before.if-m-gt512.false, c.positions_fault.ensures)))

@@ -1,6 +1,6 @@
 -- SCOPE 9: how two arcs relate, by where they meet, and of collinear ones by what they share. Definitions only.
 use Rattle.std.specs.Float.Ieee.{le}
-use Rattle.numbers.specs.Choice.{if◌then◌else◌}
+use Rattle.std.specs.Prelude.{if◌then◌else◌}
 use Rattle.vec3.specs.declared.Vec3.{Vec3}
 use Rattle.vec3.specs.Vec.{same, dot}
 use Rattle.minor_arc.specs.declared.MinorArc.{MinorArc}

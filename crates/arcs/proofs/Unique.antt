@@ -19,7 +19,7 @@ use Rattle.arcs.specs.declared.ArcRelated.TheVariants as Related
 use Rattle.arcs.proofs.new as New
 use Rattle.arcs.proofs.opposite as Opposite
 use Rattle.arcs.proofs.side_of as SideOf
-use Rattle.arcs.proofs.contains_position as Contains
+use Rattle.arcs.proofs.contains_position as ContainsPosition
 use Rattle.arcs.proofs.intersection as Intersection
 use Rattle.arcs.proofs.relate as Relate
 use Rattle.arcs.specs.Answers.{Told, refused, answer, told_made, told_sided, told_contained, told_met, told_related}
@@ -113,7 +113,7 @@ opposite_unique κs a x y v w p q = (one_made x y (p ∙ sym q), refl)
 pub side_of_unique : One SideOf.Kinds.ps SideOf.Kinds.r SideOf.Reads.Post
 side_of_unique κs a x y v w p q = (one_sided x y (p ∙ sym q), refl)
 
-pub contains_position_unique : One Contains.Kinds.ps Contains.Kinds.r Contains.Reads.Post
+pub contains_position_unique : One ContainsPosition.Kinds.ps ContainsPosition.Kinds.r ContainsPosition.Reads.Post
 contains_position_unique κs a x y v w p q = (one_contained x y (p ∙ sym q), refl)
 
 pub intersection_unique : One Intersection.Kinds.ps Intersection.Kinds.r Intersection.Reads.Post

@@ -1,7 +1,6 @@
 -- SCOPE 51: the arcsine, and the radians of a squared chord. Definitions only.
-use Rattle.std.specs.Prelude.{Float}
+use Rattle.std.specs.Prelude.{Float, if◌then◌else◌}
 use Rattle.std.specs.Float.Ieee.{lt}
-use Rattle.numbers.specs.Choice.{if◌then◌else◌}
 use Rattle.numbers.specs.F64.{◌⊕◌, ◌⊖◌, ◌⊗◌, zero, half, one, two, minus_one}
 use Rattle.root.specs.Root.{root_of}
 use Rattle.angle.specs.Arctan.{atan2}

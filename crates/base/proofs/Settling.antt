@@ -2,7 +2,7 @@
 use mathlib.Core.Path.{◌≡◌, refl}
 use mathlib.Core.Bool.{Bool, true, false, not, ◌&&◌, false≢true}
 use lib.Ieee.{lt, le}
-use Rattle.numbers.specs.Choice.{if◌then◌else◌}
+use Rattle.std.specs.Prelude.{if◌then◌else◌}
 use Rattle.numbers.specs.F64.{zero, ten_epsilon}
 use Rattle.numbers.specs.Near.{abs}
 use Rattle.vec3.specs.declared.Vec3.{Vec3}

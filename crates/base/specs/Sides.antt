@@ -1,8 +1,7 @@
 -- SCOPE 5: the side of v0 against the great circle from v1 to v2, by the sign of t = v0·(v1 × v2); where |t| is at most 10·2^-52, that limit included, by
 -- v0·`orthogonal_to`(v1, v2). Above 0 is left. Definitions only.
-use Rattle.std.specs.Prelude.{ℤ, pos, negsuc, Bool, not, ◌&&◌, Float}
+use Rattle.std.specs.Prelude.{ℤ, pos, negsuc, Bool, not, ◌&&◌, Float, if◌then◌else◌}
 use Rattle.std.specs.Float.Ieee.{lt, le}
-use Rattle.numbers.specs.Choice.{if◌then◌else◌}
 use Rattle.numbers.specs.F64.{zero, ten_epsilon}
 use Rattle.numbers.specs.Near.{abs, near}
 use Rattle.vec3.specs.declared.Vec3.{Vec3}

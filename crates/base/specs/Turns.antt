@@ -1,7 +1,6 @@
 -- SCOPE 6: the turning angle with a reference vector, the arctangent of a signed sine and a cosine. Definitions only.
-use Rattle.std.specs.Prelude.{Float}
+use Rattle.std.specs.Prelude.{Float, if◌then◌else◌}
 use Rattle.std.specs.Float.Ieee.{neg, le}
-use Rattle.numbers.specs.Choice.{if◌then◌else◌}
 use Rattle.numbers.specs.F64.{zero}
 use Rattle.root.specs.Root.{root_of}
 use Rattle.vec3.specs.declared.Vec3.{Vec3}

@@ -1,8 +1,7 @@
 -- The exports on arcs, over bytes. SCOPE 34: 1 for a position that is not 24 bytes, an arc that is not 72; a query's own after all refusals of the arc before
 -- it, a second arc's after all of the first's, and `desk_arc` judges both lengths before 3 and 4; 5 by the bytes that the answer writes. Definitions only.
-use Rattle.std.specs.Prelude.{ℕ, ◌*◌, List, [], ◌∷◌, ◌++◌, length, ltb}
+use Rattle.std.specs.Prelude.{ℕ, ◌*◌, List, [], ◌∷◌, ◌++◌, length, ltb, if◌then◌else◌}
 use Rattle.std.proofs.lemmas.List.Edits.{sets}
-use Rattle.numbers.specs.Choice.{if◌then◌else◌}
 use Rattle.laws.specs.Loop.{first}
 use Rattle.vec3.specs.declared.Vec3.{Vec3}
 use Rattle.wire.specs.Wire.{vec_of, vec_bytes}

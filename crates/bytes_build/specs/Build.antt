@@ -1,8 +1,7 @@
 -- Building over bytes, and over floats with the header in bytes: the answer is the count of the loop that was written, 0 for empty and full (SCOPE 32, 33), and its mode is in its header (SCOPE 57).
 -- SCOPE 34: 5 is judged by the size of a loop of n, the opened count or 0 below three. Definitions only.
-use Rattle.std.specs.Prelude.{ℕ, ◌*◌, ◌/◌, ◌%◌, ◌≤◌, ◌≡◌, Bool, true, false, cond, List, [], length, take, eqb, ltb, Float}
+use Rattle.std.specs.Prelude.{ℕ, ◌*◌, ◌/◌, ◌%◌, ◌≤◌, ◌≡◌, Bool, true, false, cond, List, [], length, take, eqb, ltb, Float, if◌then◌else◌}
 use Rattle.std.proofs.lemmas.List.Edits.{sets}
-use Rattle.numbers.specs.Choice.{if◌then◌else◌}
 use Rattle.laws.specs.Loop.{first}
 use Rattle.minor_arc.specs.declared.Mode.{Mode}
 use Rattle.loop_header.specs.declared.Header.{Header}

@@ -1,8 +1,7 @@
 -- How far, over bytes. SCOPE 53: 0 is answered and the squared chord written, 8 bytes or one float; the refusals are those of a place, or of what an arc
 -- contains, and then, last of all, 5 where there is no room. Definitions only.
-use Rattle.std.specs.Prelude.{ℕ, zero, suc, true, List, [], ◌∷◌, length, ltb, Float}
+use Rattle.std.specs.Prelude.{ℕ, zero, suc, true, List, [], ◌∷◌, length, ltb, Float, if◌then◌else◌}
 use Rattle.std.proofs.lemmas.List.Edits.{sets}
-use Rattle.numbers.specs.Choice.{if◌then◌else◌}
 use Rattle.vec3.specs.declared.Vec3.{Vec3}
 use Rattle.wire.specs.Wire.{vec_size, vec_of, float_bytes}
 use Rattle.loop_header.specs.declared.Header.{Header}

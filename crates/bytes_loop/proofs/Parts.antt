@@ -9,7 +9,7 @@ use lib.Seq.{sets}
 use lib.Dec.{ltb}
 use lib.Ieee.{Float}
 use borrow.Author.Tests.{ltb-true, ltb-false}
-use Rattle.numbers.specs.Choice.{if◌then◌else◌}
+use Rattle.std.specs.Prelude.{if◌then◌else◌}
 use Rattle.laws.proofs.Rests.{rest}
 use Rattle.loop_header.specs.declared.Header.{Header}
 use Rattle.wire.specs.Wire.{floats_at, floats_bytes}

@@ -1,9 +1,8 @@
 -- SCOPE 14: caps. One contains by `lte` and meets another by `gte`. The bounding cap's centre is of the opened list summed in the order given, before any
 -- reversal; its growth and the threshold of a quarter circle are recorded bit for bit (docs/CONSTANTS.md). Definitions only.
-use Rattle.std.specs.Prelude.{ℕ, Bool, false, ◌||◌, List, Float}
+use Rattle.std.specs.Prelude.{ℕ, Bool, false, ◌||◌, List, Float, if◌then◌else◌}
 use Rattle.std.specs.Float.{binary64}
 use Rattle.std.specs.Float.Ieee.{of_bits, le, eq}
-use Rattle.numbers.specs.Choice.{if◌then◌else◌}
 use Rattle.numbers.specs.F64.{zero, minus_one}
 use Rattle.numbers.specs.Near.{near, at_most, at_least}
 use Rattle.laws.specs.Loop.{iterate}

@@ -1,7 +1,6 @@
 -- SCOPE 4, 51: squared chords, at most 4, and their radians; -1 marks the empty cap. Definitions only.
-use Rattle.std.specs.Prelude.{◌||◌, Float}
+use Rattle.std.specs.Prelude.{◌||◌, Float, if◌then◌else◌}
 use Rattle.std.specs.Float.Ieee.{lt, le, eq}
-use Rattle.numbers.specs.Choice.{if◌then◌else◌}
 use Rattle.numbers.specs.F64.{◌⊕◌, ◌⊖◌, ◌⊗◌, zero, quarter, one, two, four, minus_one}
 use Rattle.root.specs.Root.{root_of}
 use Rattle.angle.specs.declared.Angle.{Angle}

@@ -5,7 +5,7 @@ use mathlib.Core.Bool.{Bool, true, false}
 use mathlib.Core.Logic.{◌⊎◌, inl, inr, ⊎_elim}
 use lib.Ieee.{Float, le}
 use Rattle.numbers.specs.Finite.{finite}
-use Rattle.numbers.specs.Choice.{if◌then◌else◌}
+use Rattle.std.specs.Prelude.{if◌then◌else◌}
 use Rattle.vec3.specs.declared.Vec3.{Vec3}
 use Rattle.vec3.specs.Vec.{dot, pos_at}
 use Rattle.judge.specs.Judge.{least, greatest, finite_vec, in_range, within_range, vector_fault, fault_of}

@@ -1,9 +1,8 @@
 -- SCOPE 25: refusals 3 and 4, as numbers, 0 for none: a component that is NaN or infinite, a squared norm outside 1 - 2^-40 to 1 + 2^-40 (SCOPE 10).
 -- SCOPE 26: positions go one by one, 3 before 4 for each. Definitions only.
-use Rattle.std.specs.Prelude.{ℕ, Bool, ◌&&◌, cond, List, ltb, Float}
+use Rattle.std.specs.Prelude.{ℕ, Bool, ◌&&◌, cond, List, ltb, Float, if◌then◌else◌}
 use Rattle.std.specs.Float.{binary64}
 use Rattle.std.specs.Float.Ieee.{of_bits, le}
-use Rattle.numbers.specs.Choice.{if◌then◌else◌}
 use Rattle.numbers.specs.Finite.{finite}
 use Rattle.vec3.specs.declared.Vec3.{Vec3}
 use Rattle.vec3.specs.Vec.{dot, pos_at}

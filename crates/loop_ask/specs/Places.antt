@@ -1,6 +1,5 @@
 -- SCOPE 21, 55: where a place lies, as a number: 0 outside, 1 inside, 2 mute. Definitions only.
-use Rattle.std.specs.Prelude.{ℕ, Bool, true, false, List, eqb, ltb, Float}
-use Rattle.numbers.specs.Choice.{if◌then◌else◌}
+use Rattle.std.specs.Prelude.{ℕ, Bool, true, false, List, eqb, ltb, Float, if◌then◌else◌}
 use Rattle.vec3.specs.declared.Vec3.{Vec3}
 use Rattle.vec3.specs.Vec.{cleared}
 use Rattle.cap.specs.declared.Cap.{Cap}

@@ -1,7 +1,6 @@
 -- What the questions answer: the refusal, or the answer's number. SCOPE 26: the loop's refusals before a query position's. Definitions only.
-use Rattle.std.specs.Prelude.{ℕ, ◌*◌, ◌≤◌, ◌≡◌, Bool, true, false, not, List, length, eqb, Float}
+use Rattle.std.specs.Prelude.{ℕ, ◌*◌, ◌≤◌, ◌≡◌, Bool, true, false, not, List, length, eqb, Float, if◌then◌else◌}
 use Rattle.std.specs.Bool.{beq}
-use Rattle.numbers.specs.Choice.{if◌then◌else◌}
 use Rattle.laws.specs.Loop.{first}
 use Rattle.vec3.specs.declared.Vec3.{Vec3}
 use Rattle.vec3.specs.Vec.{cleared}

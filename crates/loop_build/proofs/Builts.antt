@@ -11,7 +11,7 @@ use lib.Ieee.{Float, lt}
 use borrow.Author.Tests.{le-leb, le-ltb, eq-eqb}
 use Rattle.numbers.specs.F64 as F
 use Rattle.numbers.specs.Near.{near}
-use Rattle.numbers.specs.Choice.{if◌then◌else◌}
+use Rattle.std.specs.Prelude.{if◌then◌else◌}
 use Rattle.laws.specs.Loop.{flat}
 use Rattle.laws.proofs.Blocks.{get_d_flat}
 use Rattle.laws.proofs.Copies.{length_flat}

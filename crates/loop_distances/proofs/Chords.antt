@@ -6,7 +6,7 @@ use native.Mathlib.Omega.{arith}
 use lib.Dec.{T, ltb, eqb, lt→ltb, ltb→lt}
 use lib.Ieee.{Float, nan, inf, fin, binary64, of_bits, up, down, fits, round, sum, add, mul, lt, le, eq}
 use lib.Ieee.Fits.{add-fits, eq→eqb}
-use Rattle.numbers.specs.Choice.{if◌then◌else◌}
+use Rattle.std.specs.Prelude.{if◌then◌else◌}
 use Rattle.numbers.specs.F64 as F
 use Rattle.numbers.proofs.Rounds.{is_true, is_false}
 use Rattle.root.specs.Root.{in_units}

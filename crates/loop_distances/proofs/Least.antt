@@ -7,7 +7,7 @@ use native.Mathlib.Omega.{arith}
 use lib.Dec.{T, eqb, eqb→eq}
 use lib.Ieee.Fits.{eq→eqb}
 use lib.Ieee.{Float, of_bits, neg, lt}
-use Rattle.numbers.specs.Choice.{if◌then◌else◌}
+use Rattle.std.specs.Prelude.{if◌then◌else◌}
 use Rattle.numbers.specs.F64 as F
 use Rattle.laws.specs.Loop.{iterate}
 use Rattle.root.specs.Root.{in_units}

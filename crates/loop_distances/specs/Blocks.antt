@@ -1,7 +1,6 @@
 -- The faster form over a block of edges: those that are settled are taken in ahead of any root, and the others are listed. Definitions only.
-use Rattle.std.specs.Prelude.{ℕ, zero, suc, ◌+◌, ◌-◌, ◌*◌, ◌≤◌, ◌<◌, ◌≡◌, Bool, true, false, ◌||◌, List, [], ◌∷◌, Float, length, get_or, take}
+use Rattle.std.specs.Prelude.{ℕ, zero, suc, ◌+◌, ◌-◌, ◌*◌, ◌≤◌, ◌<◌, ◌≡◌, Bool, true, false, ◌||◌, List, [], ◌∷◌, Float, length, get_or, take, if◌then◌else◌}
 use Rattle.std.specs.Float.Ieee.{le}
-use Rattle.numbers.specs.Choice.{if◌then◌else◌}
 use Rattle.numbers.specs.F64.{◌⊕◌, ◌⊖◌, epsilon}
 use Rattle.laws.specs.Loop.{iterate, flat}
 use Rattle.vec3.specs.declared.Vec3.{Vec3}

@@ -1,7 +1,6 @@
 -- SCOPE 49, 50: how far a position is from an arc and from a loop's border, as a squared chord, and what is answered of it. Definitions only.
-use Rattle.std.specs.Prelude.{ℕ, zero, suc, Bool, List, eqb, Float}
+use Rattle.std.specs.Prelude.{ℕ, zero, suc, Bool, List, eqb, Float, if◌then◌else◌}
 use Rattle.std.specs.Float.Ieee.{le}
-use Rattle.numbers.specs.Choice.{if◌then◌else◌}
 use Rattle.numbers.specs.F64.{◌⊕◌, ◌⊖◌, epsilon}
 use Rattle.numbers.specs.F64 as F
 use Rattle.laws.specs.Loop.{iterate}

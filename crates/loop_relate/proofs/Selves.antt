@@ -8,7 +8,7 @@ use native.Mathlib.Omega.{arith}
 use lib.ListN.{get_or}
 use lib.Ieee.{Float, nan, inf, fin, up, down, eq}
 use borrow.Author.Tests.{eq-eqb, ne_eqb, leb-true}
-use Rattle.numbers.specs.Choice.{if◌then◌else◌}
+use Rattle.std.specs.Prelude.{if◌then◌else◌}
 use Rattle.numbers.specs.Finite.{finite}
 use Rattle.laws.specs.Loop.{any_of}
 use Rattle.laws.proofs.Firsts.{first_fine, first_of_zero}

@@ -1,7 +1,7 @@
 -- What arcs have in a point rules out what they have in its opposite, but for touches in ends of both; so long mode keeps each meeting of plain mode. Assumes nothing.
 use mathlib.Core.Path.{◌≡◌, refl, sym, ap, ◌∙◌, subst}
 use mathlib.Core.Bool.{Bool, true, false, false≢true}
-use Rattle.numbers.specs.Choice.{if◌then◌else◌}
+use Rattle.std.specs.Prelude.{if◌then◌else◌}
 use Rattle.vec3.specs.declared.Vec3.{Vec3}
 use Rattle.vec3.specs.Vec.{origin, same, opposite, stable_unit}
 use Rattle.base.specs.declared.Side.{Side}

@@ -1,7 +1,6 @@
 -- SCOPE 7, 8, 54: minor arcs, where a point of an arc's great circle lies, and where two arcs meet, by the mode. Definitions only.
-use Rattle.std.specs.Prelude.{ℕ, Bool, true, false, ◌&&◌, ◌||◌, ltb, Float}
+use Rattle.std.specs.Prelude.{ℕ, Bool, true, false, ◌&&◌, ◌||◌, ltb, Float, if◌then◌else◌}
 use Rattle.std.specs.Float.Ieee.{neg, lt}
-use Rattle.numbers.specs.Choice.{if◌then◌else◌}
 use Rattle.numbers.specs.F64.{zero}
 use Rattle.numbers.specs.Near.{near}
 use Rattle.vec3.specs.declared.Vec3.{Vec3}

@@ -1,7 +1,6 @@
 -- What a ring is made of, from the n positions of an opened list and its edges (ring_turns/specs/Turns). Definitions only.
-use Rattle.std.specs.Prelude.{ℕ, zero, suc, ◌+◌, ◌-◌, ◌*◌, ◌%◌, Bool, true, false, not, cond, List, [], ◌∷◌, length, get_or, eqb, Float}
+use Rattle.std.specs.Prelude.{ℕ, zero, suc, ◌+◌, ◌-◌, ◌*◌, ◌%◌, Bool, true, false, not, cond, List, [], ◌∷◌, length, get_or, eqb, Float, if◌then◌else◌}
 use Rattle.std.specs.Float.Ieee.{lt}
-use Rattle.numbers.specs.Choice.{if◌then◌else◌}
 use Rattle.numbers.specs.F64 as F
 use Rattle.numbers.specs.Near.{near}
 use Rattle.laws.specs.Loop.{flat, any_of}

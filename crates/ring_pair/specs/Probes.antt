@@ -1,6 +1,5 @@
 -- SCOPE 24: a point of a ring, the probe, that is on no edge of another, the reference: a corner, or else the midpoint of an edge. Definitions only.
-use Rattle.std.specs.Prelude.{ℕ, ◌+◌, ◌%◌, Bool, false, not, List, ltb, Float}
-use Rattle.numbers.specs.Choice.{if◌then◌else◌}
+use Rattle.std.specs.Prelude.{ℕ, ◌+◌, ◌%◌, Bool, false, not, List, ltb, Float, if◌then◌else◌}
 use Rattle.laws.specs.Loop.{any_of, first_at}
 use Rattle.vec3.specs.declared.Point.{Point}
 use Rattle.vec3.specs.declared.Point.TheVariants.{Absent, At}

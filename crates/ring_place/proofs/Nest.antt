@@ -7,7 +7,7 @@ use borrow.Author.Tests.{eqb-true, eqb-false, ne_eqb}
 use lib.Dec.{T, eqb}
 use lib.Ieee.{Float, nan, inf, fin, binary64, up, down, eq, level, lt, fits}
 use lib.Ieee.Fits.{neg-fits, add-fits}
-use Rattle.numbers.specs.Choice.{if◌then◌else◌}
+use Rattle.std.specs.Prelude.{if◌then◌else◌}
 use Rattle.numbers.specs.F64 as F
 use Rattle.numbers.specs.Near.{near}
 use Rattle.laws.specs.Loop.{any_of}

@@ -1,7 +1,6 @@
 -- SCOPE 21, 22, 55: whether a place is inside a ring, by the crossings of an arc from an inside, or, for three corners, by the edges' sides. Definitions only.
-use Rattle.std.specs.Prelude.{ℕ, ◌-◌, Bool, true, false, not, ◌&&◌, ◌||◌, List, eqb, Float}
+use Rattle.std.specs.Prelude.{ℕ, ◌-◌, Bool, true, false, not, ◌&&◌, ◌||◌, List, eqb, Float, if◌then◌else◌}
 use Rattle.std.specs.Float.Ieee.{neg, lt}
-use Rattle.numbers.specs.Choice.{if◌then◌else◌}
 use Rattle.numbers.specs.F64.{epsilon}
 use Rattle.numbers.specs.F64 as F
 use Rattle.numbers.specs.Near.{near}

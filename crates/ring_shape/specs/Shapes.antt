@@ -1,6 +1,5 @@
 -- SCOPE 23, 55: the shape of a ring: convex, simple, and the same as another. Definitions only.
-use Rattle.std.specs.Prelude.{ℕ, ◌+◌, ◌-◌, ◌%◌, Bool, true, false, not, ◌&&◌, ◌||◌, List, eqb, leb, get_or, Float}
-use Rattle.numbers.specs.Choice.{if◌then◌else◌}
+use Rattle.std.specs.Prelude.{ℕ, ◌+◌, ◌-◌, ◌%◌, Bool, true, false, not, ◌&&◌, ◌||◌, List, eqb, leb, get_or, Float, if◌then◌else◌}
 use Rattle.laws.specs.Loop.{any_of}
 use Rattle.vec3.specs.declared.Point.{Point}
 use Rattle.vec3.specs.declared.Point.TheVariants.{Absent, At}

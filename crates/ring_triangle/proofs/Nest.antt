@@ -1,7 +1,7 @@
 -- The source's `inside_or_edge` asks its three sides in a nest of tests. It answers as `fits` does, for every three sides. Assumes nothing.
 use mathlib.Core.Path.{◌≡◌, refl}
 use mathlib.Core.Bool.{Bool, true, false, ◌&&◌}
-use Rattle.numbers.specs.Choice.{if◌then◌else◌}
+use Rattle.std.specs.Prelude.{if◌then◌else◌}
 use Rattle.base.specs.declared.Side.{Side}
 use Rattle.base.specs.declared.Side.TheVariants.{Left, Right, Collinear}
 use Rattle.ring_triangle.specs.Inside.{fits}

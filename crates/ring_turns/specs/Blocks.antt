@@ -1,6 +1,5 @@
 -- The turn sum block by block, and the edges' normals in two goes: what the work arrays hold. Definitions only.
-use Rattle.std.specs.Prelude.{ℕ, ◌+◌, ◌%◌, List, [], ◌∷◌, Float}
-use Rattle.numbers.specs.Choice.{if◌then◌else◌}
+use Rattle.std.specs.Prelude.{ℕ, ◌+◌, ◌%◌, List, [], ◌∷◌, Float, if◌then◌else◌}
 use Rattle.laws.specs.Loop.{flat}
 use Rattle.vec3.specs.declared.Vec3.{Vec3}
 use Rattle.vec3.specs.Vec.{dot, same, origin, unit_vec, stable_cross, orthogonal, pos_at, coords}

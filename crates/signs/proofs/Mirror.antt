@@ -6,7 +6,7 @@ use lib.IntN.{negsuc}
 use lib.Dec.{T}
 use lib.Ieee.{Float, nan, inf, fin, binary64, neg, add, sub, fits, lt, le, of_bits}
 use lib.Ieee.Fits.{add-fits, neg-fits}
-use Rattle.numbers.specs.Choice.{if◌then◌else◌}
+use Rattle.std.specs.Prelude.{if◌then◌else◌}
 use Rattle.numbers.specs.F64 as F
 use Rattle.numbers.specs.Near.{abs, near}
 use Rattle.vec3.specs.declared.Vec3.{Vec3}

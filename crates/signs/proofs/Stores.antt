@@ -4,7 +4,7 @@ use mathlib.Core.Bool.{Bool, true, false}
 use lib.Dec.{T}
 use lib.Ieee.{Float, binary64, neg, add, fits, eq, of_bits}
 use lib.Ieee.Fits.{add-fits, mul-fits, neg-fits}
-use Rattle.numbers.specs.Choice.{if◌then◌else◌}
+use Rattle.std.specs.Prelude.{if◌then◌else◌}
 use Rattle.numbers.specs.F64 as F
 use Rattle.root.specs.Root.{root_of}
 use Rattle.vec3.specs.declared.Vec3.{Vec3}

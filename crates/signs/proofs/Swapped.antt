@@ -6,7 +6,7 @@ use lib.IntN.{ℤ, pos}
 use lib.Dec.{T, ltb}
 use lib.Ieee.{Float, nan, inf, fin, binary64, up, down, round, neg, add, sub, mul, unlike, fits, eq, of_bits, units, odd}
 use lib.Ieee.Fits.{round_is, mul-fits, add-fits, neg-fits}
-use Rattle.numbers.specs.Choice.{if◌then◌else◌}
+use Rattle.std.specs.Prelude.{if◌then◌else◌}
 use Rattle.numbers.specs.F64 as F
 use Rattle.root.specs.Root.{root_of}
 use Rattle.vec3.specs.declared.Vec3.{Vec3}

@@ -1,8 +1,7 @@
 -- The mirror law of the side test (SCOPE 5): the opposite of a vector is on the mirrored side, unless a NaN decides. Proved in proofs/Mirror.antt. Definitions only.
-use Rattle.std.specs.Prelude.{◌≡◌, Bool, true, false, Float}
+use Rattle.std.specs.Prelude.{◌≡◌, Bool, true, false, Float, if◌then◌else◌}
 use Rattle.std.specs.Float.{nan, inf, fin}
 use Rattle.std.specs.Float.Ieee.{le}
-use Rattle.numbers.specs.Choice.{if◌then◌else◌}
 use Rattle.numbers.specs.F64.{ten_epsilon}
 use Rattle.numbers.specs.Near.{abs}
 use Rattle.vec3.specs.declared.Vec3.{Vec3}

@@ -10,7 +10,7 @@ use lib.Pow.{pow-add, pow_pos}
 use lib.Ieee.{Float, nan, inf, fin, binary64, of_bits, up, down, mul, lt, le, eq}
 use lib.Ieee.Fits.{down_pos, and_l, and_r}
 use Rattle.numbers.specs.F64 as F
-use Rattle.numbers.specs.Choice.{if◌then◌else◌}
+use Rattle.std.specs.Prelude.{if◌then◌else◌}
 use Rattle.numbers.specs.Finite.{finite}
 use Rattle.numbers.specs.Near.{abs}
 use Rattle.laws.proofs.Firsts.{first_of_zero}

@@ -8,7 +8,7 @@ use lib.Dec.{lit≤}
 use lib.Ieee.{Float, nan, inf, fin, binary64, of_bits, mul, eq}
 use lib.Ieee.Fits.{add-fits}
 use Rattle.numbers.specs.F64 as F
-use Rattle.numbers.specs.Choice.{if◌then◌else◌}
+use Rattle.std.specs.Prelude.{if◌then◌else◌}
 use Rattle.vec3.specs.declared.Vec3.{Vec3}
 use Rattle.vec3.specs.Vec.{vec, origin, dot, times, unit_vec, unit}
 use Rattle.root.specs.Root.{root_of}

@@ -7,7 +7,7 @@ use native.Mathlib.Omega.{arith}
 use lib.Dec.{T, lit≤}
 use lib.Ieee.{Float, nan, inf, fin, binary64, fits, neg}
 use Rattle.numbers.specs.F64 as F
-use Rattle.numbers.specs.Choice.{if◌then◌else◌}
+use Rattle.std.specs.Prelude.{if◌then◌else◌}
 use Rattle.numbers.specs.Finite.{finite}
 use Rattle.root.specs.Root.{root_of}
 use Rattle.root.proofs.Nearest.{root_is}

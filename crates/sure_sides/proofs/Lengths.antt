@@ -12,7 +12,7 @@ use lib.Pow.{pow-add, pow_pos, pow_mono}
 use lib.Ieee.{Float, nan, inf, fin, binary64, of_bits, up, down, round, fits, neg, mul, div, lt, eq}
 use lib.Ieee.Fits.{down_pos, up_pos, add-fits, and_l}
 use Rattle.numbers.specs.F64 as F
-use Rattle.numbers.specs.Choice.{if◌then◌else◌}
+use Rattle.std.specs.Prelude.{if◌then◌else◌}
 use Rattle.root.specs.Root.{root_of, in_units, NearestRoot, Nearer}
 use Rattle.root.proofs.Nearest.{root_is}
 use Rattle.vec3.specs.declared.Vec3.{Vec3}

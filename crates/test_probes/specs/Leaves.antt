@@ -1,9 +1,8 @@
 -- The test probes over the leaves. Their operands are three vectors a, b, c of raw floats; an operation's number is its index in a table. Definitions only.
-use Rattle.std.specs.Prelude.{ℕ, ◌/◌, ◌%◌, Bool, true, false, List, [], ◌∷◌, length, get_or, eqb, leb, ltb, Float}
+use Rattle.std.specs.Prelude.{ℕ, ◌/◌, ◌%◌, Bool, true, false, List, [], ◌∷◌, length, get_or, eqb, leb, ltb, Float, if◌then◌else◌}
 use Rattle.std.proofs.lemmas.List.Edits.{sets}
 use Rattle.std.specs.Float.{nan, binary64}
 use Rattle.std.specs.Float.Ieee.{to_bits}
-use Rattle.numbers.specs.Choice.{if◌then◌else◌}
 use Rattle.numbers.specs.F64.{zero}
 use Rattle.numbers.specs.Near.{near, at_most, at_least}
 use Rattle.root.specs.Root.{root_of}

@@ -9,7 +9,7 @@ use lib.Dec.{lit≤}
 use lib.Ieee.{Float, nan, inf, fin, binary64, of_bits, add, mul, lt, le, eq}
 use lib.Ieee.Fits.{mul-fits}
 use Rattle.numbers.specs.F64 as F
-use Rattle.numbers.specs.Choice.{if◌then◌else◌}
+use Rattle.std.specs.Prelude.{if◌then◌else◌}
 use Rattle.numbers.specs.Near.{near}
 use Rattle.laws.specs.Loop.{iterate}
 use Rattle.root.specs.Root.{root_of}

@@ -8,7 +8,7 @@ use lib.ListN.{length}
 use lib.Dec.{eqb, ltb}
 use lib.Ieee.{Float}
 use borrow.Author.Tests.{eqb-true, eq-eqb, le-ltb, ltb-false, ltb-true}
-use Rattle.numbers.specs.Choice.{if◌then◌else◌}
+use Rattle.std.specs.Prelude.{if◌then◌else◌}
 use Rattle.laws.specs.Loop.{first, first_at, any_of}
 use Rattle.laws.proofs.Firsts.{first_zero_lem, first_fine}
 use Rattle.vec3.specs.declared.Vec3.{Vec3}

@@ -9,7 +9,7 @@ use lib.Ieee.{Float, nan, binary64, of_bits, add, fits, lt, le, eq}
 use lib.Ieee.Bits.{of_bits-fits}
 use lib.Ieee.Fits.{nan-fits, add-fits, mul-fits}
 use Rattle.numbers.specs.F64 as F
-use Rattle.numbers.specs.Choice.{if◌then◌else◌}
+use Rattle.std.specs.Prelude.{if◌then◌else◌}
 use Rattle.numbers.specs.Near.{near}
 use Rattle.root.specs.Root.{root_of}
 use Rattle.laws.specs.Loop.{iterate, flat}

@@ -1,8 +1,7 @@
 -- SCOPE 54, 55: in plain mode each definition that goes by the mode is what it was without one, the source's rule: a line for each. Of building the mode is stored
 -- and nothing else. Proved in proofs/Plains.antt. Definitions only.
-use Rattle.std.specs.Prelude.{ℕ, ◌+◌, ◌-◌, ◌<◌, ◌≡◌, not, ◌&&◌, ◌||◌, List, leb, Float}
+use Rattle.std.specs.Prelude.{ℕ, ◌+◌, ◌-◌, ◌<◌, ◌≡◌, not, ◌&&◌, ◌||◌, List, leb, Float, if◌then◌else◌}
 use Rattle.laws.specs.Loop.{any_of, iterate}
-use Rattle.numbers.specs.Choice.{if◌then◌else◌}
 use Rattle.vec3.specs.declared.Vec3.{Vec3}
 use Rattle.vec3.specs.declared.Insides.TheVariants.{Absent, Two}
 use Rattle.vec3.specs.Vec.{origin, same, cleared, dot, cross, stable_unit}

@@ -9,7 +9,7 @@ use lib.Dec.{lit≤}
 use lib.Ieee.{Float, nan, inf, fin, binary64, neg, le}
 use lib.Ieee.Fits.{add-fits}
 use Rattle.numbers.specs.F64 as F
-use Rattle.numbers.specs.Choice.{if◌then◌else◌}
+use Rattle.std.specs.Prelude.{if◌then◌else◌}
 use Rattle.root.specs.Root.{root_of}
 use Rattle.vec3.specs.declared.Vec3.{Vec3}
 use Rattle.vec3.specs.Vec.{dot, product, cross, pos_at}

@@ -1,10 +1,9 @@
 -- Wrong programs of distances and of radians (SCOPE 49, 50, 51): each gives, at one input, another answer than the definition. A change of rule is a parameter of
 -- `arc_by`, `ring_by` or `radians_by`, which with the rule itself are the definition. Proved in proofs/Distances.antt. Definitions only.
-use Rattle.std.specs.Prelude.{ℕ, ◌-◌, ◌≡◌, Bool, false, ◌||◌, List, [], ◌∷◌, Float}
+use Rattle.std.specs.Prelude.{ℕ, ◌-◌, ◌≡◌, Bool, false, ◌||◌, List, [], ◌∷◌, Float, if◌then◌else◌}
 use Rattle.std.specs.Float.{binary64, nan}
 use Rattle.std.specs.Float.Ieee.{of_bits, lt, le}
 use Rattle.laws.specs.Loop.{iterate}
-use Rattle.numbers.specs.Choice.{if◌then◌else◌}
 use Rattle.numbers.specs.F64 as F64
 use Rattle.numbers.specs.F64.{◌⊕◌, ◌⊖◌, ◌⊗◌, half, one, two, four, minus_one, epsilon}
 use Rattle.root.specs.Root.{root_of}

@@ -1,6 +1,5 @@
 -- SCOPE 3: points that may be absent. Definitions only.
-use Rattle.std.specs.Prelude.{◌||◌}
-use Rattle.numbers.specs.Choice.{if◌then◌else◌}
+use Rattle.std.specs.Prelude.{◌||◌, if◌then◌else◌}
 use Rattle.numbers.specs.F64.{◌⊕◌}
 use Rattle.vec3.specs.declared.Vec3.{Vec3}
 use Rattle.vec3.specs.declared.Point.{Point}

@@ -1,9 +1,8 @@
 -- SCOPE 3: the vectors' rules. Sums run left to right, each operation rounds once (SCOPE 1); a component is stored as 0.0 + v, so -0.0 becomes 0.0; a zero
 -- cross product falls to `orthogonal`. Definitions only.
-use Rattle.std.specs.Prelude.{ℕ, ◌+◌, ◌*◌, Bool, ◌&&◌, List, [], ◌∷◌, get_or, Float}
+use Rattle.std.specs.Prelude.{ℕ, ◌+◌, ◌*◌, Bool, ◌&&◌, List, [], ◌∷◌, get_or, Float, if◌then◌else◌}
 use Rattle.std.specs.Float.{nan}
 use Rattle.std.specs.Float.Ieee.{neg, lt, eq}
-use Rattle.numbers.specs.Choice.{if◌then◌else◌}
 use Rattle.root.specs.Root.{root_of}
 use Rattle.numbers.specs.F64.{◌⊕◌, ◌⊖◌, ◌⊗◌, ◌⊘◌, zero, one}
 use Rattle.numbers.specs.Near.{abs}

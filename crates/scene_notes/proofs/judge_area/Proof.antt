@@ -2,6 +2,7 @@
 use Rattle.scene_notes.proofs.Tables.{met_count}
 use Rattle.scene_notes.specs.Noted.{judge_area}
 use borrow.Author.Tests.{eq-eqb, ne_eqb, lt-ltb, le-ltb, le-leb, lt-leb}
+use native.Mathlib.Omega.{arith}
 use borrow.Author.Rules.{rules}
 use Rattle.scene_notes.proofs.judge_area.Statement.{statement}
 use Rattle.scene_notes.proofs.judge_area.Tie as tie
@@ -15,16 +16,6 @@ returns-repeated c =
     let count = met_count _ numbered.before.before.requires.0 in
     simp (number, ← looked.index_of.ensures.0, count, lt-ltb _ _ c.if-index_of-c.true)
 
-returns-many-areas : tie.Need-returns-then-c-ge16
-unfolding judge_area
-returns-many-areas c =
-    let new = c.before.before in
-    let looked = new.before.before in
-    let numbered = looked.before in
-    let number = ne_eqb _ _ numbered.if-number-eq0.false in
-    let count = met_count _ numbered.before.before.requires.0 in
-    simp (number, ← looked.index_of.ensures.0, count, le-ltb _ _ new.if-index_of-c.false, le-leb _ _ c.if-c-ge16.true)
-
 returns-many-positions : tie.Need-returns-then-c-count-gt1024
 unfolding judge_area
 returns-many-positions c =
@@ -34,7 +25,7 @@ returns-many-positions c =
     let numbered = looked.before in
     let number = ne_eqb _ _ numbered.if-number-eq0.false in
     let count = met_count _ numbered.before.before.requires.0 in
-    simp (number, ← looked.index_of.ensures.0, count, le-ltb _ _ new.if-index_of-c.false, lt-leb _ _ few.if-c-ge16.false, lt-ltb _ _ c.if-c-count-gt1024.true)
+    simp (number, ← looked.index_of.ensures.0, count, le-ltb _ _ new.if-index_of-c.false, lt-leb 16 c.args.c.met (omega arith), lt-ltb _ _ c.if-c-count-gt1024.true)
 
 returns-fine : tie.Need-returns
 unfolding judge_area
@@ -45,7 +36,7 @@ returns-fine c =
     let numbered = looked.before in
     let number = ne_eqb _ _ numbered.if-number-eq0.false in
     let count = met_count _ numbered.before.before.requires.0 in
-    simp (number, ← looked.index_of.ensures.0, count, le-ltb _ _ new.if-index_of-c.false, lt-leb _ _ few.if-c-ge16.false, le-ltb _ _ c.if-c-count-gt1024.false)
+    simp (number, ← looked.index_of.ensures.0, count, le-ltb _ _ new.if-index_of-c.false, lt-leb 16 c.args.c.met (omega arith), le-ltb _ _ c.if-c-count-gt1024.false)
 
 pub judge_area_spec : {M : Type 1} → statement M
 unfolding judge_area
@@ -56,7 +47,13 @@ judge_area_spec =
     (λ c. simp (eq-eqb _ _ c.if-number-eq0.true))
     (λ c κs. search rules)
     returns-repeated
-    returns-many-areas
+    (λ c.
+    let new = c.before.before in
+    let looked = new.before.before in
+    let numbered = looked.before in
+    let number = ne_eqb _ _ numbered.if-number-eq0.false in
+    let count = met_count _ numbered.before.before.requires.0 in
+    simp (number, ← looked.index_of.ensures.0, count, le-ltb _ _ new.if-index_of-c.false, le-leb 16 c.args.c.met (omega arith)))
     (λ c. search rules)
     returns-many-positions
     returns-fine)

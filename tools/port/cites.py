@@ -5,7 +5,9 @@
 `FILE: a, b` and `CRATE: a, b`                         some file of that name declares each, or some file or edit of the crate has it
 `CRATE::f`, `desk_f`                                   the crate has the function
 `crates/..rt:N` `f`                                    line N of the file has f; without f, it is no empty line
-a name by itself                                       it stands somewhere in the tree
+a name by itself                                       it stands somewhere in the tree, or in the page itself
+
+`crate` and `name` in place of a crate and a name say how a citation is written.
 """
 
 import glob
@@ -41,7 +43,9 @@ def cite(paths, names, where):
                 yield f"{where} does not declare {'.' if field else ''}{word}"
 
 
-def faults(span, follows):
+def faults(span, follows, page):
+    if span.startswith("crate/") or span.endswith(": name"):
+        return
     m = re.fullmatch(r"([a-z0-9_]+)/(specs|proofs)/([\w/]+)(?:: (.*))?", span)
     if m:
         crate, kind, name, names = m.groups()
@@ -87,15 +91,18 @@ def faults(span, follows):
             yield f"that line is: {line.strip()[:100]}"
         return
     if re.fullmatch(r"[A-Za-z][\w'-]*", span) and ("_" in span or "-" in span or re.search(r"[a-z][A-Z]", span)):
-        if span not in WORDS and span not in OTHER and not os.path.exists(span):
+        if span not in WORDS and span not in OTHER and span not in page and not os.path.exists(span):
             yield f"no such name: {span}"
 
 
 bad = 0
 for page in sys.argv[1:]:
-    for i, line in enumerate(open(page, encoding="utf-8"), 1):
+    with open(page, encoding="utf-8") as f:
+        text = f.read()
+    outside = re.sub(r"`[^`\n]+`", "", text)
+    for i, line in enumerate(text.split("\n"), 1):
         for m in re.finditer(r"`([^`\n]+)`", line):
-            for it in faults(m[1], line[m.end():].strip()):
+            for it in faults(m[1], line[m.end():].strip(), outside):
                 bad += 1
                 print(f"{page}:{i}: `{m[1]}`: {it}")
 print(f"{bad} citations do not hold")

@@ -6,6 +6,7 @@ use mathlib.Core.Bool.{true, false}
 use mathlib.Core.List.{List, [], ◌∷◌}
 use lib.ListN.{get_or, replicate}
 use lib.Ieee.{Float, binary64, to_bits, nan}
+use denote.MutBor.{MutBor}
 use denote.Ref.{Bor}
 use Rattle.outcomes.specs.Outcomes.{One}
 use Rattle.numbers.specs.F64.{zero}
@@ -267,13 +268,16 @@ of_mute = record {
 abbrev lent : {A : Type 0} → List A → Bor (List A)
 lent l = record { ref_ptr = (0, 0); now = l }
 
+abbrev lent_out : {A : Type 0} → List A → MutBor (List A)
+lent_out l = record { ref_ptr = (0, 0); ghost_name = 0; now = l }
+
 of_contracts : OfContracts
 unfolding Computing.of_cutting
 of_contracts = record { buffer_left_open = left_open }
   where
     left_open : One Triangulate.Kinds.ps Triangulate.Kinds.r answer_alone → ⊥
     left_open one =
-        let same = one ([], ([], ([], tt))) (empty_header Plain, (lent [], (lent [], (lent (0 ∷ []), tt)))) (Triangles 0) (Triangles 0) (tt, (tt, (tt, (0 ∷ [], tt)))) (tt, (tt, (tt, (1 ∷ [], tt)))) refl refl in
+        let same = one ([], ([], ([], tt))) (empty_header Plain, (lent [], (lent [], (lent_out (0 ∷ []), tt)))) (Triangles 0) (Triangles 0) (tt, (tt, (tt, (0 ∷ [], tt)))) (tt, (tt, (tt, (1 ∷ [], tt)))) refl refl in
         below 0 1 0 refl (ap (λ t. get_or t.1.1.1.0 0 9) same.1)
 
 pub wrongs : Wrongs

@@ -25,6 +25,7 @@ pub fn minus(x: f64) -> bool
 }
 
 // x without its sign, of a zero too.
+#[tactic(auto, unfolding(crate::specs::Arctan::size))]
 pub fn size(x: f64) -> f64
     ensures { result ≡ Atn.size x }
 {
@@ -32,6 +33,7 @@ pub fn size(x: f64) -> f64
 }
 
 // The sum of Euler's series at y, 49 terms, from the last to the first, two at a time.
+#[tactic(auto, unfolding(crate::specs::Arctan::sum_of))]
 pub fn sum(y: f64) -> f64
     ensures { result ≡ Atn.sum_of y }
 {
@@ -65,6 +67,7 @@ pub fn sum(y: f64) -> f64
 }
 
 // The arctangent of a t from 0 to 1.
+#[tactic(auto, unfolding(crate::specs::Arctan::acute))]
 pub fn acute(t: f64) -> f64
     ensures { result ≡ Atn.acute t }
 {
@@ -74,6 +77,7 @@ pub fn acute(t: f64) -> f64
 }
 
 // The angle of (b, a) in the first quadrant.
+#[tactic(auto, unfolding(crate::specs::Arctan::quadrant))]
 pub fn quadrant(a: f64, b: f64) -> f64
     ensures { result ≡ Atn.quadrant a b }
 {
@@ -106,6 +110,7 @@ pub fn signed(down: bool, r: f64) -> f64
 
 // The angle of (x, y) from the positive x axis, from -PI to PI. For finite arguments that are not both zero it is within 2^-45 of the exact angle: that is
 // `near_angle`, and from this contract `atan2_near` (crate exact_angles).
+#[tactic(auto, unfolding(crate::specs::Arctan::atan2))]
 pub fn atan2(y: f64, x: f64) -> f64
     ensures { result ≡ Atn.atan2 y x }
 {

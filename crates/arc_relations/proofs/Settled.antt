@@ -1,9 +1,9 @@
 -- Arcs between the axes, computed by antt: they touch in a shared end, and an arc overlaps itself, where `intersection` says none. Assumes nothing.
 use mathlib.Core.Path.{◌≡◌, refl}
 use lib.Ieee.{add, sub, mul, div, neg, lt, le, eq, of_bits}
+use Rattle.std.specs.Prelude.{None}
 use Rattle.root.specs.Root.{root_of}
 use Rattle.numbers.specs.Near.{abs}
-use Rattle.vec3.specs.declared.Point.TheVariants.{Absent}
 use Rattle.vec3.specs.Vec.{axis_x, axis_y, axis_z, unit_vec, axis_for, orthogonal_to}
 use Rattle.base.specs.Sides.{sign_of, retest_of, side_of}
 use Rattle.minor_arc.specs.declared.Mode.TheVariants.{Plain}
@@ -19,6 +19,6 @@ pub with_itself : relation_of Plain (arc_of axis_x axis_y) (arc_of axis_x axis_y
 unfolding relation_of meeting_of meeting_in collinear_of considered pushed span_of nearer location_of side_of sign_of retest_of orthogonal_to unit_vec axis_for abs root_of add sub mul div neg lt le eq of_bits
 with_itself = refl
 
-pub none_with_itself : meeting_point (meeting_of Plain (arc_of axis_x axis_y) (arc_of axis_x axis_y)) ≡ Absent
+pub none_with_itself : meeting_point (meeting_of Plain (arc_of axis_x axis_y) (arc_of axis_x axis_y)) ≡ None
 unfolding meeting_of meeting_in nearer location_of side_of sign_of retest_of orthogonal_to unit_vec axis_for abs root_of add sub mul div neg lt le eq of_bits
 none_with_itself = refl

@@ -26,6 +26,7 @@ pub enum Found {
 }
 
 // One candidate more: the first two that differ are kept.
+#[tactic(auto, unfolding(crate::specs::Relations::pushed))]
 fn push(f: Found, v: Vec3) -> Found
     ensures { result ≡ Relations.pushed f v }
 {
@@ -41,6 +42,7 @@ fn push(f: Found, v: Vec3) -> Found
 }
 
 // The candidate v, if it is on the arc a.
+#[tactic(auto, unfolding(crate::specs::Relations::considered))]
 fn consider(a: MinorArc, f: Found, v: Vec3) -> Found
     ensures { result ≡ Relations.considered f a v }
 {
@@ -52,6 +54,7 @@ fn consider(a: MinorArc, f: Found, v: Vec3) -> Found
 }
 
 // The arc between p and q in the direction of a, with a's normal.
+#[tactic(auto, unfolding(crate::specs::Relations::span_of))]
 fn span(a: MinorArc, p: Vec3, q: Vec3) -> MinorArc
     ensures { result ≡ Relations.span_of a p q }
 {
@@ -82,6 +85,7 @@ fn shared(a: MinorArc, f: Found) -> MinorArcRelation
 }
 
 // Each end of what two arcs of one great circle share is one of their four ends.
+#[tactic(auto, unfolding(crate::specs::Relations::collinear_of))]
 fn relate_collinear(a: MinorArc, o: MinorArc) -> MinorArcRelation
     ensures { result ≡ Relations.collinear_of a o }
 {
@@ -92,6 +96,7 @@ fn relate_collinear(a: MinorArc, o: MinorArc) -> MinorArcRelation
 }
 
 // `relate` with the unit vector of the normals' product at hand.
+#[tactic(auto, unfolding(crate::specs::Relations::relation_of))]
 pub fn relate_at(mode: Mode, a: MinorArc, o: MinorArc, i: Vec3) -> MinorArcRelation
     requires { i ≡ stable_unit a.normal o.normal }
     ensures { result ≡ Relations.relation_of mode a o }

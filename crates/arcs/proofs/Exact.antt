@@ -2,10 +2,9 @@
 use Prim.Native.Nat.{ℕ, suc}
 use mathlib.Core.Path.{◌≡◌, refl}
 use mathlib.Core.Bool.{Bool, true, false}
+use Rattle.std.specs.Prelude.{Option, None, Some}
 use Rattle.laws.specs.Loop.{first}
 use Rattle.vec3.specs.declared.Vec3.{Vec3}
-use Rattle.vec3.specs.declared.Point.{Point}
-use Rattle.vec3.specs.declared.Point.TheVariants.{Absent, At}
 use Rattle.vec3.specs.Vec.{cleared}
 use Rattle.base.specs.declared.Side.{Side}
 use Rattle.base.specs.declared.Side.TheVariants.{Left, Right, Collinear}
@@ -50,9 +49,9 @@ bool_answers : (b : Bool) → number (bool_told b) ≡ 0
 bool_answers true = refl
 bool_answers false = refl
 
-point_answers : (p : Point) → number (point_told p) ≡ 0
-point_answers Absent = refl
-point_answers (At p) = refl
+point_answers : (p : Option Vec3) → number (point_told p) ≡ 0
+point_answers None = refl
+point_answers (Some p) = refl
 
 relation_answers : (r : MinorArcRelation) → number (relation_told r) ≡ 0
 relation_answers Disjoint = refl

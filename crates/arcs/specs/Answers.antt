@@ -1,27 +1,17 @@
 -- What the six functions on arcs answer: for each case of an answer its number and values (SCOPE 27). Definitions only.
-use Rattle.std.specs.Prelude.{ℕ, zero, suc, ℤ, pos, Bool, true, false, List, [], ◌∷◌}
+use Rattle.std.specs.Prelude.{ℕ, zero, suc, ℤ, pos, Bool, true, false, List, [], ◌∷◌, Option, None, Some, Result, Ok, Err}
 use Rattle.laws.specs.Loop.{first}
 use Rattle.vec3.specs.declared.Vec3.{Vec3}
-use Rattle.vec3.specs.declared.Point.{Point}
-use Rattle.vec3.specs.declared.Point.TheVariants.{Absent, At}
 use Rattle.vec3.specs.Vec.{cleared}
 use Rattle.base.specs.declared.Side.{Side}
 use Rattle.base.specs.declared.Side.TheVariants.{Left, Right, Collinear}
 use Rattle.base.specs.Sides.{side_code}
+use Rattle.judge.specs.declared.Refusal.{Refusal}
+use Rattle.judge.specs.Refusals.{number}
 use Rattle.judge.specs.Judge.{fault_of, vector_fault}
 use Rattle.minor_arc.specs.declared.MinorArc.{MinorArc}
 use Rattle.arc_relations.specs.declared.MinorArcRelation.{MinorArcRelation}
 use Rattle.arc_relations.specs.declared.MinorArcRelation.TheVariants.{Disjoint, Intersecting, Touching, Overlapping}
-use Rattle.arcs.specs.declared.ArcMade.{ArcMade}
-use Rattle.arcs.specs.declared.ArcMade.TheVariants as Made
-use Rattle.arcs.specs.declared.Sided.{Sided}
-use Rattle.arcs.specs.declared.Sided.TheVariants as Sided
-use Rattle.arcs.specs.declared.Contained.{Contained}
-use Rattle.arcs.specs.declared.Contained.TheVariants as Contained
-use Rattle.arcs.specs.declared.Met.{Met}
-use Rattle.arcs.specs.declared.Met.TheVariants as Met
-use Rattle.arcs.specs.declared.ArcRelated.{ArcRelated}
-use Rattle.arcs.specs.declared.ArcRelated.TheVariants as Related
 use Rattle.minor_arc.specs.declared.Mode.{Mode}
 use Rattle.minor_arc.specs.Arcs.{arc_of, reversed, arc_side, on_arc, meeting_of, meeting_point}
 use Rattle.arc_relations.specs.Relations.{relation_of}
@@ -35,32 +25,44 @@ abbrev pub vectors : MinorArc → List Vec3
 vectors a = a.start ∷ a.end ∷ a.normal ∷ []
 
 -- ---- the number and values of each case, a relation's by SCOPE 9
-abbrev pub told_made : ArcMade → Told
-told_made (Made.Refused n) = refused n
-told_made (Made.Arc a) = answer (pos 0) (vectors a)
+abbrev pub side_told : Side → Told
+side_told Collinear = answer (side_code Collinear) []
+side_told Left = answer (side_code Left) []
+side_told Right = answer (side_code Right) []
 
-abbrev pub told_sided : Sided → Told
-told_sided (Sided.Refused n) = refused n
-told_sided Sided.Collinear = answer (side_code Collinear) []
-told_sided Sided.Left = answer (side_code Left) []
-told_sided Sided.Right = answer (side_code Right) []
+abbrev pub bool_told : Bool → Told
+bool_told false = answer (pos 0) []
+bool_told true = answer (pos 1) []
 
-abbrev pub told_contained : Contained → Told
-told_contained (Contained.Refused n) = refused n
-told_contained Contained.No = answer (pos 0) []
-told_contained Contained.Yes = answer (pos 1) []
+abbrev pub point_told : Option Vec3 → Told
+point_told None = answer (pos 0) []
+point_told (Some p) = answer (pos 1) (p ∷ [])
 
-abbrev pub told_met : Met → Told
-told_met (Met.Refused n) = refused n
-told_met Met.Nowhere = answer (pos 0) []
-told_met (Met.At p) = answer (pos 1) (p ∷ [])
+abbrev pub relation_told : MinorArcRelation → Told
+relation_told Disjoint = answer (pos 0) []
+relation_told (Intersecting p) = answer (pos 1) (p ∷ [])
+relation_told (Touching p) = answer (pos 2) (p ∷ [])
+relation_told (Overlapping a) = answer (pos 3) (vectors a)
 
-abbrev pub told_related : ArcRelated → Told
-told_related (Related.Refused n) = refused n
-told_related Related.Disjoint = answer (pos 0) []
-told_related (Related.Intersecting p) = answer (pos 1) (p ∷ [])
-told_related (Related.Touching p) = answer (pos 2) (p ∷ [])
-told_related (Related.Overlapping a) = answer (pos 3) (vectors a)
+abbrev pub told_made : Result MinorArc Refusal → Told
+told_made (Err r) = refused (number r)
+told_made (Ok a) = answer (pos 0) (vectors a)
+
+abbrev pub told_sided : Result Side Refusal → Told
+told_sided (Err r) = refused (number r)
+told_sided (Ok s) = side_told s
+
+abbrev pub told_contained : Result Bool Refusal → Told
+told_contained (Err r) = refused (number r)
+told_contained (Ok b) = bool_told b
+
+abbrev pub told_met : Result (Option Vec3) Refusal → Told
+told_met (Err r) = refused (number r)
+told_met (Ok p) = point_told p
+
+abbrev pub told_related : Result MinorArcRelation Refusal → Told
+told_related (Err r) = refused (number r)
+told_related (Ok r) = relation_told r
 
 -- ---- what is handed in. SCOPE 3: free of -0.0
 abbrev pub cleared_arc : MinorArc → MinorArc
@@ -80,25 +82,6 @@ pair_fault a b = first (arc_fault a) (arc_fault b)
 abbrev pub judged : ℕ → Told → Told
 judged zero t = t
 judged (suc k) t = refused (suc k)
-
-abbrev pub side_told : Side → Told
-side_told Collinear = answer (side_code Collinear) []
-side_told Left = answer (side_code Left) []
-side_told Right = answer (side_code Right) []
-
-abbrev pub bool_told : Bool → Told
-bool_told false = answer (pos 0) []
-bool_told true = answer (pos 1) []
-
-abbrev pub point_told : Point → Told
-point_told Absent = answer (pos 0) []
-point_told (At p) = answer (pos 1) (p ∷ [])
-
-abbrev pub relation_told : MinorArcRelation → Told
-relation_told Disjoint = answer (pos 0) []
-relation_told (Intersecting p) = answer (pos 1) (p ∷ [])
-relation_told (Touching p) = answer (pos 2) (p ∷ [])
-relation_told (Overlapping a) = answer (pos 3) (vectors a)
 
 unfoldable pub new_told : Vec3 → Vec3 → Told
 new_told s e = judged (first (fault_of s) (fault_of e)) (answer (pos 0) (vectors (arc_of s e)))

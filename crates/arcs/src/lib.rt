@@ -3,49 +3,14 @@
 #![tactic(auto)]
 
 ghost use Rattle.std.specs.Prelude.{◌≡◌};
+ghost use Rattle.judge.specs.Refusals.{number_of};
 ghost use Rattle.arcs.specs.Answers as Answers;
 
 use arc_relations::MinorArcRelation;
 use base::Side;
+use judge::Refusal;
 use minor_arc::{MinorArc, Mode};
-use vec3::{Point, Vec3};
-
-#[derive(Clone, Copy)]
-pub enum ArcMade {
-    Refused(u8),
-    Arc(MinorArc),
-}
-
-#[derive(Clone, Copy)]
-pub enum Sided {
-    Refused(u8),
-    Collinear,
-    Left,
-    Right,
-}
-
-#[derive(Clone, Copy)]
-pub enum Contained {
-    Refused(u8),
-    No,
-    Yes,
-}
-
-#[derive(Clone, Copy)]
-pub enum Met {
-    Refused(u8),
-    Nowhere,
-    At(Vec3),
-}
-
-#[derive(Clone, Copy)]
-pub enum ArcRelated {
-    Refused(u8),
-    Disjoint,
-    Intersecting(Vec3),
-    Touching(Vec3),
-    Overlapping(MinorArc),
-}
+use vec3::Vec3;
 
 // An arc as it is read: free of -0.0.
 pub fn clear_arc(a: MinorArc) -> MinorArc
@@ -59,130 +24,87 @@ pub fn clear_arc(a: MinorArc) -> MinorArc
 }
 
 // The one judge of an arc.
-pub fn arc_fault(a: MinorArc) -> u8
-    ensures { result ≡ Answers.arc_fault a }
+#[tactic(auto, unfolding(crate::specs::Answers::arc_fault))]
+pub fn arc_fault(a: MinorArc) -> Result<(), Refusal>
+    ensures { number_of result ≡ Answers.arc_fault a }
 {
-    let ends = judge::first(judge::fault(a.start), judge::fault(a.end));
-    judge::first(ends, judge::vector_fault(a.normal))
+    judge::fault(a.start)?;
+    judge::fault(a.end)?;
+    judge::vector_fault(a.normal)
 }
 
 // The first refusal of an arc and a query.
-pub fn query_fault(a: MinorArc, p: Vec3) -> u8
-    ensures { result ≡ Answers.query_fault a p }
+pub fn query_fault(a: MinorArc, p: Vec3) -> Result<(), Refusal>
+    ensures { number_of result ≡ Answers.query_fault a p }
 {
-    judge::first(arc_fault(a), judge::fault(p))
+    arc_fault(a)?;
+    judge::fault(p)
 }
 
 // The first refusal of two arcs.
-fn pair_fault(a: MinorArc, b: MinorArc) -> u8
-    ensures { result ≡ Answers.pair_fault a b }
+fn pair_fault(a: MinorArc, b: MinorArc) -> Result<(), Refusal>
+    ensures { number_of result ≡ Answers.pair_fault a b }
 {
-    judge::first(arc_fault(a), arc_fault(b))
+    arc_fault(a)?;
+    arc_fault(b)
 }
 
-fn tell_side(s: Side) -> Sided
-    ensures { Answers.told_sided result ≡ Answers.side_told s }
-{
-    match s {
-        Side::Left => Sided::Left,
-        Side::Right => Sided::Right,
-        Side::Collinear => Sided::Collinear,
-    }
-}
-
-fn tell_contained(b: bool) -> Contained
-    ensures { Answers.told_contained result ≡ Answers.bool_told b }
-{
-    if b { Contained::Yes } else { Contained::No }
-}
-
-fn tell_point(p: Point) -> Met
-    ensures { Answers.told_met result ≡ Answers.point_told p }
-{
-    match p {
-        Point::Absent => Met::Nowhere,
-        Point::At(v) => Met::At(v),
-    }
-}
-
-fn tell_relation(r: MinorArcRelation) -> ArcRelated
-    ensures { Answers.told_related result ≡ Answers.relation_told r }
-{
-    match r {
-        MinorArcRelation::Disjoint => ArcRelated::Disjoint,
-        MinorArcRelation::Intersecting(p) => ArcRelated::Intersecting(p),
-        MinorArcRelation::Touching(p) => ArcRelated::Touching(p),
-        MinorArcRelation::Overlapping(a) => ArcRelated::Overlapping(a),
-    }
-}
-
-pub fn new(start: Vec3, end: Vec3) -> ArcMade
+#[tactic(auto, unfolding(crate::specs::Answers::new_told))]
+pub fn new(start: Vec3, end: Vec3) -> Result<MinorArc, Refusal>
     ensures { Answers.told_made result ≡ Answers.new_answer start end }
 {
     let s = start.clear();
     let e = end.clear();
-    let f = judge::first(judge::fault(s), judge::fault(e));
-    if f != 0 {
-        return ArcMade::Refused(f);
-    }
-    ArcMade::Arc(MinorArc::new(s, e))
+    judge::fault(s)?;
+    judge::fault(e)?;
+    Ok(MinorArc::new(s, e))
 }
 
-pub fn opposite(a: MinorArc) -> ArcMade
+#[tactic(auto, unfolding(crate::specs::Answers::opposite_told))]
+pub fn opposite(a: MinorArc) -> Result<MinorArc, Refusal>
     ensures { Answers.told_made result ≡ Answers.opposite_answer a }
 {
     let arc = clear_arc(a);
-    let f = arc_fault(arc);
-    if f != 0 {
-        return ArcMade::Refused(f);
-    }
-    ArcMade::Arc(arc.opposite())
+    arc_fault(arc)?;
+    Ok(arc.opposite())
 }
 
-pub fn side_of(a: MinorArc, p: Vec3) -> Sided
+#[tactic(auto, unfolding(crate::specs::Answers::side_of_told))]
+pub fn side_of(a: MinorArc, p: Vec3) -> Result<Side, Refusal>
     ensures { Answers.told_sided result ≡ Answers.side_answer a p }
 {
     let arc = clear_arc(a);
     let q = p.clear();
-    let f = query_fault(arc, q);
-    if f != 0 {
-        return Sided::Refused(f);
-    }
-    tell_side(arc.side_of(q))
+    query_fault(arc, q)?;
+    Ok(arc.side_of(q))
 }
 
-pub fn contains_position(a: MinorArc, p: Vec3) -> Contained
+#[tactic(auto, unfolding(crate::specs::Answers::contains_told))]
+pub fn contains_position(a: MinorArc, p: Vec3) -> Result<bool, Refusal>
     ensures { Answers.told_contained result ≡ Answers.contains_answer a p }
 {
     let arc = clear_arc(a);
     let q = p.clear();
-    let f = query_fault(arc, q);
-    if f != 0 {
-        return Contained::Refused(f);
-    }
-    tell_contained(arc.contains_position(q))
+    query_fault(arc, q)?;
+    Ok(arc.contains_position(q))
 }
 
-pub fn intersection(mode: Mode, a: MinorArc, b: MinorArc) -> Met
+#[tactic(auto, unfolding(crate::specs::Answers::intersection_told))]
+pub fn intersection(mode: Mode, a: MinorArc, b: MinorArc) -> Result<Option<Vec3>, Refusal>
     ensures { Answers.told_met result ≡ Answers.intersection_answer mode a b }
 {
     let one = clear_arc(a);
     let other = clear_arc(b);
-    let f = pair_fault(one, other);
-    if f != 0 {
-        return Met::Refused(f);
-    }
-    tell_point(one.intersection(mode, other))
+    pair_fault(one, other)?;
+    Ok(one.intersection(mode, other))
 }
 
-pub fn relate(mode: Mode, a: MinorArc, b: MinorArc) -> ArcRelated
+#[tactic(auto, unfolding(crate::specs::Answers::relate_told))]
+pub fn relate(mode: Mode, a: MinorArc, b: MinorArc) -> Result<MinorArcRelation, Refusal>
     ensures { Answers.told_related result ≡ Answers.relate_answer mode a b }
 {
     let one = clear_arc(a);
     let other = clear_arc(b);
-    let f = pair_fault(one, other);
-    if f != 0 {
-        return ArcRelated::Refused(f);
-    }
-    tell_relation(arc_relations::relate(mode, one, other))
+    pair_fault(one, other)?;
+    Ok(arc_relations::relate(mode, one, other))
 }

@@ -5,6 +5,7 @@ ghost use Rattle.std.specs.Prelude.{◌≡◌};
 ghost use Rattle.arcsine.specs.Arcsine as Asn;
 
 // The angle whose sine is u, from -PI/2 to PI/2. The product is taken of 1 - u and 1 + u, for 1 - u * u loses the last bits of a u near 1.
+#[tactic(auto, unfolding(crate::specs::Arcsine::arcsine))]
 pub fn arcsine(u: f64) -> f64
     ensures { result ≡ Asn.arcsine u }
 {

@@ -21,6 +21,7 @@ fn greater(a: f64, b: f64) -> f64
 }
 
 // The number from 0 to 1 whose arctangent the angle of (x, y) is made of.
+#[tactic(auto, unfolding(crate::specs::Arctangents::proportion))]
 pub fn proportion(y: f64, x: f64) -> f64
     ensures { result ≡ Atn.proportion y x }
 {
@@ -39,7 +40,9 @@ pub fn write_acutes(ts: &[f64], k: usize, out: &mut [f64])
     }
 }
 
-// The angle of (b, a) in the first quadrant, with the arctangent of its proportion at hand.
+// The angle of (b, a) in the first quadrant, with the arctangent of its proportion at hand. Beside `angle::quadrant`, which has none at hand and sums the series
+// only where it takes one.
+#[tactic(auto, unfolding(crate::specs::Arctangents::quadrant_by))]
 fn quadrant_by(a: f64, b: f64, u: f64) -> f64
     ensures { result ≡ Atn.quadrant_by a b u }
 {

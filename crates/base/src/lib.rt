@@ -11,13 +11,14 @@ use vec3::Vec3;
 // Up to this size a triple product is not trusted.
 const TRIAGE_SIDE_EPS: f64 = 10.0 * numbers::EPSILON;
 
-#[derive(Clone, Copy)]
+#[derive(Clone, Copy, Debug, PartialEq, Eq)]
 pub enum Side {
     Left,
     Right,
     Collinear,
 }
 
+#[tactic(auto, unfolding(crate::specs::Sides::sign_of))]
 fn by_sign(t: f64) -> Side
     ensures { result ≡ sign_of t }
 {
@@ -25,6 +26,7 @@ fn by_sign(t: f64) -> Side
 }
 
 // The side by the stable normal. It is rare, and so a function of its own.
+#[tactic(auto, unfolding(crate::specs::Sides::retest_of))]
 fn retest(v0: Vec3, v1: Vec3, v2: Vec3) -> Side
     ensures { result ≡ retest_of v0 v1 v2 }
 {
@@ -37,6 +39,7 @@ fn retest(v0: Vec3, v1: Vec3, v2: Vec3) -> Side
 }
 
 // Whether v0 is left of, right of or on the great circle from v1 to v2.
+#[tactic(auto, unfolding(crate::specs::Sides::side_of))]
 pub fn side_of(v0: Vec3, v1: Vec3, v2: Vec3) -> Side
     ensures { result ≡ side_of v0 v1 v2 }
 {
@@ -63,6 +66,7 @@ pub fn settles_left(t: f64) -> bool
 }
 
 // Whether v0 is right of the great circle with this normal by the first test of `side_of` alone. A normal is worked out once for many positions.
+#[tactic(auto, unfolding(crate::specs::Sides::surely_right))]
 pub fn is_surely_right(v0: Vec3, normal: Vec3) -> bool
     ensures { result ≡ surely_right v0 normal }
 {
@@ -70,6 +74,7 @@ pub fn is_surely_right(v0: Vec3, normal: Vec3) -> bool
 }
 
 // The sine of the angle from v1 to v2 times their lengths: the length of their cross product, negative where that points away from vn.
+#[tactic(auto, unfolding(crate::specs::Turns::sine_of))]
 pub fn sine(v1: Vec3, v2: Vec3, vn: Vec3) -> f64
     ensures { result ≡ sine_of v1 v2 vn }
 {

@@ -4,11 +4,13 @@ use mathlib.Core.Path.{◌≡◌, refl, sym, ◌∙◌}
 use mathlib.Core.Bool.{Bool, true, false, ◌&&◌, cond}
 use mathlib.Core.List.{List}
 use native.Mathlib.Omega.{arith}
-use lib.ListN.{length}
+use lib.ListN.{length, take, replicate}
 use lib.Dec.{ltb}
 use lib.Ieee.{Float}
 use borrow.Author.Tests.{eq-eqb, ne_eqb, lt-ltb, le-leb, ltb-true}
+use Rattle.numbers.specs.F64 as F
 use Rattle.laws.specs.Loop.{first}
+use Rattle.laws.proofs.Copies.{first_of_lem}
 use Rattle.vec3.specs.declared.Vec3.{Vec3}
 use Rattle.loop_header.specs.declared.State.{State}
 use Rattle.loop_header.specs.declared.State.TheVariants.{Empty, Full, Ring}
@@ -17,13 +19,12 @@ use Rattle.loop_header.specs.Loops.{count_fits, threes_of, shape_fault, ring_fau
 use Rattle.loop_ask.specs.Answers.{Told, refused, judged}
 use Rattle.loop_ask.specs.Questions.{query_fault, place_answer, vertex_answer, on_edge_answer, convex_answer, simple_answer}
 use Rattle.wire.specs.Wire.{vec_size, vec_of}
-use Rattle.bytes_loop.specs.Outcome.{refusal_of}
-use Rattle.bytes_loop.specs.Layout.{count_at, state_byte, state_of, header_at, positions_at, normals_at, classes_at, frame_fault, large_fault, many_fault, copy_fault, Arrays}
-use Rattle.bytes_loop.proofs.Faults.{wrong_size, right_size, frame_size, Copyable, copyable}
+use Rattle.bytes_loop.specs.Layout.{count_at, state_byte, state_of, header_at, positions_at, normals_at, classes_at, frame_fault, large_fault, many_fault, copy_fault, header_size, header_fault, Arrays}
+use Rattle.bytes_loop.proofs.Faults.{wrong_size, right_size, frame_size, header_size_lem, Copyable, copyable}
 use Rattle.bytes_loop.proofs.Parts.{positions_length, normals_length, classes_length}
 use Rattle.bytes_ask.specs.declared.Question.{Question}
 use Rattle.bytes_ask.specs.declared.Question.TheVariants.{Place, Vertex, OnEdge, Convex, Simple}
-use Rattle.bytes_ask.specs.Ask.{number_of, told_at, needs_position, told_by, ask_told}
+use Rattle.bytes_ask.specs.Ask.{told_at, needs_position, told_by, ask_told, no_query}
 
 -- ---- a count above 512
 shape_large : (h : Header) (ps : List Float) (cs : List ℕ) → length ps ≡ 3 * h.count → length cs ≡ h.count → shape_fault h ps cs ≡ cond (count_fits h.state h.count) 0 1
@@ -87,22 +88,22 @@ module _ (h : Header) (ps ns : List Float) (cs : List ℕ) where
   any_position Simple v w e = refl
 
   -- the three ways of `answer`
-  module _ (q : Question) (p : List ℕ) {b : Bool} {r : ℕ} (n : b ≡ needs_position q) where
-    pub no_position : (v : Vec3) → b ≡ false → r ≡ number_of (told_at q h ps ns cs v) → r ≡ number_of (told_by q h ps ns cs p)
+  module _ (q : Question) (p : List ℕ) where
+    pub no_position : (v : Vec3) → needs_position q ≡ false → told_at q h ps ns cs v ≡ told_by q h ps ns cs p
     unfolding told_by
-    no_position v e t = rw (← n, e, any_position q (vec_of p 0) v (sym n ∙ e)) t
+    no_position v e = rw (e, any_position q (vec_of p 0) v e)
 
-    pub wrong_position : b ≡ true → (length p ≡ vec_size → ⊥) → r ≡ refusal_of (first (loop_fault h ps ns cs) 1) → r ≡ number_of (told_by q h ps ns cs p)
+    pub wrong_position : needs_position q ≡ true → (length p ≡ vec_size → ⊥) → no_query h ps ns cs ≡ told_by q h ps ns cs p
     unfolding told_by
-    wrong_position e z t = rw (← n, e, wrong_size (length p) vec_size z, t) (one (loop_fault h ps ns cs) (told_at q h ps ns cs (vec_of p 0)))
+    wrong_position e z = rw (e, wrong_size (length p) vec_size z) (one (loop_fault h ps ns cs) (told_at q h ps ns cs (vec_of p 0)))
       where
-        one : (f : ℕ) (x : Told) → refusal_of (first f 1) ≡ number_of (judged (first f 1) x)
+        one : (f : ℕ) (x : Told) → refused (first f 1) ≡ judged (first f 1) x
         one zero x = refl
         one (suc k) x = refl
 
-    pub at_position : b ≡ true → length p ≡ vec_size → r ≡ number_of (told_at q h ps ns cs (vec_of p 0)) → r ≡ number_of (told_by q h ps ns cs p)
+    pub at_position : needs_position q ≡ true → length p ≡ vec_size → told_at q h ps ns cs (vec_of p 0) ≡ told_by q h ps ns cs p
     unfolding told_by
-    at_position e z t = rw (← n, e, right_size (length p) vec_size z, judged_at q (vec_of p 0) (loop_fault h ps ns cs) refl) t
+    at_position e z = rw (e, right_size (length p) vec_size z, judged_at q (vec_of p 0) (loop_fault h ps ns cs) refl)
 
 -- ---- a loop in bytes
 module _ (s : List ℕ) where
@@ -143,8 +144,8 @@ told_early s t r h = at (frame_fault s) refl h
         large zero a b d = absurd (b refl)
         large (suc k) a b d = r k d
 
-pub early : (q : Question) (s p : List ℕ) {f r : ℕ} → f ≡ copy_fault s → (f ≡ 0 → ⊥) → r ≡ refusal_of f → r ≡ number_of (ask_told q s p)
-early q s p e h t = rw (t, e, told_early s (told_by q (header_at s) (positions_at s) (normals_at s) (classes_at s) p) (λ k. by_refused (header_at s) (positions_at s) (normals_at s) (classes_at s) q p) (λ z. h (e ∙ z)))
+pub early : (q : Question) (s p : List ℕ) → (copy_fault s ≡ 0 → ⊥) → refused (copy_fault s) ≡ ask_told q s p
+early q s p h = sym (told_early s (told_by q (header_at s) (positions_at s) (normals_at s) (classes_at s) p) (λ k. by_refused (header_at s) (positions_at s) (normals_at s) (classes_at s) q p) h)
 
 -- what can be copied
 module _ (s : List ℕ) {f : ℕ} (e : f ≡ copy_fault s) (z : f ≡ 0) where
@@ -157,5 +158,23 @@ module _ (s : List ℕ) {f : ℕ} (e : f ≡ copy_fault s) (z : f ≡ 0) where
   pub arrays : {n a b : ℕ} → n ≡ count_at s → a ≡ 3 * n → b ≡ 3 * n → Arrays s a b
   arrays q a b = record { size = copies.size; for_positions = rw (← q) a; for_normals = rw (← q) b }
 
-  pub late : (q : Question) (p : List ℕ) {r : ℕ} → r ≡ number_of (told_by q (header_at s) (positions_at s) (normals_at s) (classes_at s) p) → r ≡ number_of (ask_told q s p)
-  late q p t = rw copies.framed t
+-- the same as calls need it
+pub copied_header : (s : List ℕ) → 0 ≡ copy_fault s → header_size ≤ length s
+copied_header s e = let z = copies s e refl in omega (arith, z.size)
+
+pub copied_most : (s : List ℕ) → 0 ≡ copy_fault s → count_at s ≤ 512
+copied_most s e = (copies s e refl).most
+
+-- and what it copies into: the first 3 n floats of a work array
+module _ (s : List ℕ) {n : ℕ} (e : 0 ≡ copy_fault s) (c : n ≡ count_at s) where
+  pub room : length (take (3 * n) (replicate 1536 F.zero)) ≡ 3 * n
+  room = first_of_lem 1536 F.zero (omega (arith, copied_most s e))
+
+  pub rooms : Arrays s (length (take (3 * n) (replicate 1536 F.zero))) (length (take (3 * n) (replicate 1536 F.zero)))
+  rooms = arrays s e refl c room room
+
+pub headed : (s : List ℕ) → 0 ≡ header_fault s → header_size ≤ length s
+headed s e = let z = header_size_lem s (sym e) in omega arith
+
+pub late : (s : List ℕ) → 0 ≡ copy_fault s → (q : Question) (p : List ℕ) → told_by q (header_at s) (positions_at s) (normals_at s) (classes_at s) p ≡ ask_told q s p
+late s e q p = rw (copies s e refl).framed

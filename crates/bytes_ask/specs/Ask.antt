@@ -1,7 +1,9 @@
 -- Questions over bytes. SCOPE 34: a position's own length is judged after all refusals of the loop before it. Definitions only.
-use Rattle.std.specs.Prelude.{ℕ, Bool, true, false, List, length, Float}
+use Rattle.std.specs.Prelude.{ℕ, Bool, true, false, List, length, Float, Result, Ok, Err}
 use Rattle.laws.specs.Loop.{first}
 use Rattle.vec3.specs.declared.Vec3.{Vec3}
+use Rattle.judge.specs.declared.Refusal.{Refusal}
+use Rattle.judge.specs.Refusals.{number}
 use Rattle.loop_header.specs.declared.Header.{Header}
 use Rattle.loop_header.specs.Loops.{loop_fault}
 use Rattle.loop_ask.specs.Answers.{Told, refused, answer, judged}
@@ -16,6 +18,11 @@ use Rattle.bytes_ask.specs.declared.Question.TheVariants.{Place, Vertex, OnEdge,
 abbrev pub number_of : Told → ℕ
 number_of (refused f) = refusal_of f
 number_of (answer n) = n
+
+-- SCOPE 27: an answer's number, or what it is refused for
+abbrev pub told_number : Result ℕ Refusal → Told
+told_number (Ok n) = answer n
+told_number (Err r) = refused (number r)
 
 -- the answer about a position; convexity and simplicity are asked of none
 abbrev pub told_at : Question → Header → List Float → List Float → List ℕ → Vec3 → Told
@@ -57,5 +64,5 @@ abbrev pub place_told : List ℕ → List Float → List Float → List ℕ → 
 place_told s ps ns cs p = judged (header_fault s) (place_answer (header_at s) ps ns cs p)
 
 -- ---- inner
-abbrev pub no_query : Header → List Float → List Float → List ℕ → ℕ
-no_query h ps ns cs = refusal_of (first (loop_fault h ps ns cs) 1)
+abbrev pub no_query : Header → List Float → List Float → List ℕ → Told
+no_query h ps ns cs = refused (first (loop_fault h ps ns cs) 1)

@@ -6,8 +6,8 @@ ghost use Rattle.loop_ask.specs.Answers as An;
 ghost use Rattle.bytes_ask.specs.Ask as As;
 ghost use Rattle.bytes_loop.specs.Layout as F;
 
-use bytes_loop::refusal;
-use loop_ask::{Answered, Placed};
+use judge::Refusal;
+use loop_ask::Place;
 use loop_header::Header;
 use vec3::Vec3;
 
@@ -20,46 +20,58 @@ pub enum Question {
     Simple,
 }
 
-pub fn placed(p: Placed) -> u32
-    ensures { result ≡ As.number_of (An.told_placed p) }
+// An answer's number, or what it is refused for, as a caller is told it.
+pub fn tell(answer: Result<u32, Refusal>) -> u32
+    ensures { result ≡ As.number_of (As.told_number answer) }
+{
+    answer.unwrap_or_else(bytes_loop::refusal)
+}
+
+fn placed(p: Place) -> u32
+    ensures { result ≡ An.place_code p }
 {
     match p {
-        Placed::Refused(f) => refusal(f),
-        Placed::Outside => 0,
-        Placed::Inside => 1,
-        Placed::Mute => 2,
+        Place::Outside => 0,
+        Place::Inside => 1,
+        Place::Mute => 2,
     }
 }
 
-pub fn answered(a: Answered) -> u32
-    ensures { result ≡ As.number_of (An.told_answered a) }
+pub fn answered(yes: bool) -> u32
+    ensures { An.answer result ≡ An.bool_told yes }
 {
-    match a {
-        Answered::Refused(f) => refusal(f),
-        Answered::No => 0,
-        Answered::Yes => 1,
-    }
+    if yes { 1 } else { 0 }
 }
 
 // The refusal of a position whose length is wrong: the loop's own, or else 1.
-fn no_query(h: Header, positions: &[f64], normals: &[f64], classes: &[u8]) -> u32
-    ensures { result ≡ As.no_query h positions.now normals.now classes.now }
+fn no_query(h: Header, positions: &[f64], normals: &[f64], classes: &[u8]) -> Result<u32, Refusal>
+    ensures { As.told_number result ≡ As.no_query h positions.now normals.now classes.now }
 {
-    refusal(judge::first(loop_header::loop_fault(h, positions, normals, classes), 1))
+    loop_header::loop_fault(h, positions, normals, classes)?;
+    Err(Refusal::Shape)
 }
 
 // The answer to a question about a position.
-fn query(q: Question, h: Header, positions: &[f64], normals: &[f64], classes: &[u8], p: Vec3) -> u32
-    ensures { result ≡ As.number_of (As.told_at q h positions.now normals.now classes.now p) }
+fn query(
+    q: Question,
+    h: Header,
+    positions: &[f64],
+    normals: &[f64],
+    classes: &[u8],
+    p: Vec3,
+) -> Result<u32, Refusal>
+    ensures { As.told_number result ≡ As.told_at q h positions.now normals.now classes.now p }
 {
     match q {
-        Question::Place => placed(loop_ask::contains_position(h, positions, normals, classes, p)),
-        Question::Vertex => answered(loop_ask::has_vertex(h, positions, normals, classes, p)),
-        Question::OnEdge => {
-            answered(loop_ask::any_edge_contains_position(h, positions, normals, classes, p))
+        Question::Place => {
+            loop_ask::contains_position(h, positions, normals, classes, p).map(placed)
         }
-        Question::Convex => answered(loop_ask::is_convex(h, positions, normals, classes)),
-        Question::Simple => answered(loop_ask::is_simple(h, positions, normals, classes)),
+        Question::Vertex => loop_ask::has_vertex(h, positions, normals, classes, p).map(answered),
+        Question::OnEdge => {
+            loop_ask::any_edge_contains_position(h, positions, normals, classes, p).map(answered)
+        }
+        Question::Convex => loop_ask::is_convex(h, positions, normals, classes).map(answered),
+        Question::Simple => loop_ask::is_simple(h, positions, normals, classes).map(answered),
     }
 }
 
@@ -76,6 +88,7 @@ fn needs_position(q: Question) -> bool
 }
 
 // The answer of a loop in its parts.
+#[tactic(auto, using(crate::proofs::Asks::no_position, crate::proofs::Asks::wrong_position, crate::proofs::Asks::at_position))]
 fn answer(
     q: Question,
     h: Header,
@@ -83,8 +96,8 @@ fn answer(
     normals: &[f64],
     classes: &[u8],
     position: &[u8],
-) -> u32
-    ensures { result ≡ As.number_of (As.told_by q h positions.now normals.now classes.now position.now) }
+) -> Result<u32, Refusal>
+    ensures { As.told_number result ≡ As.told_by q h positions.now normals.now classes.now position.now }
 {
     if !needs_position(q) {
         return query(q, h, positions, normals, classes, Vec3::ZERO);
@@ -96,9 +109,15 @@ fn answer(
 }
 
 // `ask` with its work arrays.
-fn ask_in(q: Question, s: &[u8], position: &[u8], positions: &mut [f64], normals: &mut [f64]) -> u32
+fn ask_in(
+    q: Question,
+    s: &[u8],
+    position: &[u8],
+    positions: &mut [f64],
+    normals: &mut [f64],
+) -> Result<u32, Refusal>
     requires { F.Arrays s.now (length positions.old) (length normals.old) }
-    ensures { result ≡ As.number_of (As.told_by q (F.header_at s.now) (F.positions_at s.now) (F.normals_at s.now) (F.classes_at s.now) position.now) }
+    ensures { As.told_number result ≡ As.told_by q (F.header_at s.now) (F.positions_at s.now) (F.normals_at s.now) (F.classes_at s.now) position.now }
 {
     let from = bytes_loop::classes_from(s);
     bytes_loop::read_vectors(s, positions, normals);
@@ -112,45 +131,63 @@ fn ask_in(q: Question, s: &[u8], position: &[u8], positions: &mut [f64], normals
     )
 }
 
-// The answer of a loop in bytes to a question, about a position in bytes where it is one.
-pub fn ask(q: Question, s: &[u8], position: &[u8]) -> u32
-    ensures { result ≡ As.number_of (As.ask_told q s.now position.now) }
+// `ask` before it is told.
+#[tactic(auto, using(crate::proofs::Asks::early, crate::proofs::Asks::late, crate::proofs::Asks::copied_header, crate::proofs::Asks::copied_most))]
+fn asked(q: Question, s: &[u8], position: &[u8]) -> Result<u32, Refusal>
+    ensures { As.told_number result ≡ As.ask_told q s.now position.now }
 {
-    let f = bytes_loop::copy_fault(s);
-    if f != 0 {
-        return refusal(f);
-    }
+    bytes_loop::copy_fault(s)?;
     let size = 3 * bytes_loop::count_at(s);
     let mut positions = [0.0f64; 1536];
     let mut normals = [0.0f64; 1536];
     ask_in(q, s, position, &mut positions[..size], &mut normals[..size])
 }
 
+// The answer of a loop in bytes to a question, about a position in bytes where it is one.
+pub fn ask(q: Question, s: &[u8], position: &[u8]) -> u32
+    ensures { result ≡ As.number_of (As.ask_told q s.now position.now) }
+{
+    tell(asked(q, s, position))
+}
+
+#[tactic(auto, unfolding(crate::specs::Ask::told_by))]
 pub fn is_convex(s: &[u8]) -> u32
     ensures { result ≡ As.number_of (As.convex_told s.now) }
 {
     ask(Question::Convex, s, s)
 }
 
+#[tactic(auto, unfolding(crate::specs::Ask::told_by))]
 pub fn is_simple(s: &[u8]) -> u32
     ensures { result ≡ As.number_of (As.simple_told s.now) }
 {
     ask(Question::Simple, s, s)
 }
 
-// The place of a position in a loop whose header alone is bytes.
-pub fn place(header: &[u8], positions: &[f64], normals: &[f64], classes: &[u8], p: Vec3) -> u32
-    ensures { result ≡ As.number_of (As.place_told header.now positions.now normals.now classes.now p) }
+// `place` before it is told.
+#[tactic(auto, using(crate::proofs::Asks::headed))]
+fn placed_by(
+    header: &[u8],
+    positions: &[f64],
+    normals: &[f64],
+    classes: &[u8],
+    p: Vec3,
+) -> Result<Place, Refusal>
+    ensures { An.told_placed result ≡ As.place_told header.now positions.now normals.now classes.now p }
 {
-    let f = bytes_loop::header_fault(header);
-    if f != 0 {
-        return refusal(f);
-    }
-    placed(loop_ask::contains_position(
+    bytes_loop::header_fault(header)?;
+    loop_ask::contains_position(
         bytes_loop::header_at(header),
         positions,
         normals,
         classes,
         p,
-    ))
+    )
+}
+
+// The place of a position in a loop whose header alone is bytes.
+pub fn place(header: &[u8], positions: &[f64], normals: &[f64], classes: &[u8], p: Vec3) -> u32
+    ensures { result ≡ As.number_of (As.place_told header.now positions.now normals.now classes.now p) }
+{
+    tell(placed_by(header, positions, normals, classes, p).map(placed))
 }

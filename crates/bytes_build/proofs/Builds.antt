@@ -19,14 +19,14 @@ use Rattle.loop_header.specs.declared.Header.{Header}
 use Rattle.loop_build.specs.Build as B
 use Rattle.loop_build.proofs.Rooms.{list_fine}
 use Rattle.loop_build.proofs.Rooms as R
-use Rattle.wire.specs.Wire.{vec_size, floats_at}
+use Rattle.wire.specs.Wire.{vec_size}
 use Rattle.wire.proofs.Lays.{floats_length}
 use Rattle.bytes_loop.specs.Outcome.{Outcome, outcome, refusal_of}
-use Rattle.bytes_loop.specs.Layout.{header_size, corners_for, Parts}
+use Rattle.bytes_loop.specs.Layout.{header_size, Parts}
 use Rattle.bytes_loop.proofs.Faults.{by_outcome}
 use Rattle.bytes_loop.proofs.Parts.{behind}
 use Rattle.bytes_build.specs.Build.{made_if, made_of, made_bytes, built_outcome, build_outcome, list_at, Roomy, Fitting, front, loop_outcome, out_outcome, header_outcome, floats_outcome, short_header, Counted}
-use Rattle.bytes_build.proofs.Rooms.{need_none, need_header, same_refusal, fits, fine, no_need, header_need}
+use Rattle.bytes_build.proofs.Rooms.{need_none, need_header, same_refusal, fits, no_need, header_need}
 
 -- ---- the front of what was written is the loop
 abbrev emptied : {A : Type 0} → List A → List A
@@ -86,11 +86,11 @@ module _ (mode : Mode) (l ps ns : List Float) (cs : List ℕ) where
   looped_is (suc k) h e = let z : ◌≡◌ {A = ℕ} 0 1 = cc in absurd (omega arith)
 
 module _ (mode : Mode) (l ps ns : List Float) (cs out : List ℕ) (w : Roomy (length out) (length ps) (length ns) (length cs)) {ps' ns' : List Float} {cs' : List ℕ} where
-  pub was_refused : {f r : ℕ} → record { answer = B.refused f; positions = ps'; normals = ns'; classes = cs' } ≡ B.build_outcome mode l ps ns cs → r ≡ refusal_of f → outcome r out ≡ built_outcome mode l out
+  pub was_refused : {f : ℕ} → record { answer = B.refused f; positions = ps'; normals = ns'; classes = cs' } ≡ B.build_outcome mode l ps ns cs → outcome (refusal_of f) out ≡ built_outcome mode l out
   unfolding B.build_outcome built_outcome
-  was_refused {f} e q =
+  was_refused {f} e =
       let a = refused_is mode l ps ns cs (B.refusal l ps ns cs) f (ap (λ (x : B.Outcome). x.answer) e) in
-      rw (q, same_refusal l ps ns cs (length out) w a.1, ← a.0) (by_outcome f out _ (λ z. a.1 (sym a.0 ∙ z)))
+      rw (same_refusal l ps ns cs (length out) w a.1, ← a.0) (by_outcome f out _ (λ z. a.1 (sym a.0 ∙ z)))
 
   module _ {h : Header} (e : record { answer = B.loop h; positions = ps'; normals = ns'; classes = cs' } ≡ B.build_outcome mode l ps ns cs) where
     none : B.refusal l ps ns cs ≡ 0
@@ -155,9 +155,9 @@ module _ (h : Header) (ps ns : List Float) (cs : List ℕ) {out : ℕ} (f : Fitt
   }
 
 -- ---- lists in bytes
-pub unread : (mode : Mode) (s out : List ℕ) {r : ℕ} → (length s % vec_size ≡ 0 → ⊥) → r ≡ refusal_of 1 → outcome r out ≡ build_outcome mode s out
+pub unread : (mode : Mode) (s out : List ℕ) → (length s % vec_size ≡ 0 → ⊥) → outcome (refusal_of 1) out ≡ build_outcome mode s out
 unfolding build_outcome
-unread mode s out h e = rw (ne_eqb _ _ h, e)
+unread mode s out h = rw (ne_eqb _ _ h)
 
 module _ (mode : Mode) (s out : List ℕ) (h : length s % vec_size ≡ 0) where
   pub in_bytes : {x : Outcome ℕ} → x ≡ built_outcome mode (list_at s) out → x ≡ build_outcome mode s out
@@ -172,21 +172,9 @@ module _ (mode : Mode) (s out : List ℕ) (h : length s % vec_size ≡ 0) where
       let b : 512 < length s / 8 / 3 = omega arith in
       rw (e, eq-eqb _ _ a, lt-ltb _ _ b)
 
-  pub too_long_lem : {r : ℕ} → 512 < length s / vec_size → r ≡ refusal_of 2 → outcome r out ≡ build_outcome mode s out
+  pub too_long_lem : 512 < length s / vec_size → outcome (refusal_of 2) out ≡ build_outcome mode s out
   unfolding built_outcome
-  too_long_lem g e = in_bytes (rw (too_many g, e))
-
-pub read_list : (mode : Mode) (s out : List ℕ) (n : ℕ) {l : List Float} {x : Outcome ℕ} → l ≡ floats_at s 0 n → 8 * n ≡ length s → x ≡ built_outcome mode l out → x ≡ built_outcome mode (list_at s) out
-read_list mode s out n e h q =
-    let k : length s / 8 ≡ n = omega arith in
-    rw (k, ← e) q
-
--- arrays of the bytes' room
-pub roomy : {n : ℕ} (size : ℕ) {p q r : ℕ} → n ≡ corners_for size → p ≡ 3 * n → q ≡ 3 * n → r ≡ n → Roomy size p q r
-roomy size e a b d = record { for_positions = rw (← e) a; for_normals = rw (← e) b; for_classes = d ∙ e }
-
-pub given_size : (s : List ℕ) (p : ℕ) → p ≡ 3 * (length s / vec_size) → length s % vec_size ≡ 0 → 8 * p ≡ length s
-given_size s p e h = omega arith
+  too_long_lem g = in_bytes (rw (too_many g))
 
 -- ---- with the header alone in bytes
 five_or_none : (n p q r : ℕ) → (B.room_fault n p q r ≡ 0) ⊎ (B.room_fault n p q r ≡ 5)

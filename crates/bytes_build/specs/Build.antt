@@ -1,8 +1,10 @@
 -- Building over bytes, and over floats with the header in bytes: the answer is the count of the loop that was written, 0 for empty and full (SCOPE 32, 33), and its mode is in its header (SCOPE 57).
 -- SCOPE 34: 5 is judged by the size of a loop of n, the opened count or 0 below three. Definitions only.
-use Rattle.std.specs.Prelude.{ℕ, ◌*◌, ◌/◌, ◌%◌, ◌≤◌, ◌≡◌, Bool, true, false, cond, List, [], length, take, eqb, ltb, Float, if◌then◌else◌}
+use Rattle.std.specs.Prelude.{ℕ, ◌*◌, ◌/◌, ◌%◌, ◌≤◌, ◌≡◌, Bool, true, false, cond, List, [], length, take, eqb, ltb, Float, if◌then◌else◌, Result, Ok, Err}
 use Rattle.std.proofs.lemmas.List.Edits.{sets}
 use Rattle.laws.specs.Loop.{first}
+use Rattle.judge.specs.declared.Refusal.{Refusal}
+use Rattle.judge.specs.Refusals.{number}
 use Rattle.minor_arc.specs.declared.Mode.{Mode}
 use Rattle.loop_header.specs.declared.Header.{Header}
 use Rattle.loop_header.specs.Loops.{empty_header}
@@ -70,6 +72,11 @@ unfoldable pub floats_outcome : Mode → List Float → List ℕ → List Float 
 floats_outcome mode l header ps ns cs = out_outcome (B.outcome_by (first (B.refusal l ps ns cs) (need_fault (length header) 0)) mode l ps ns cs) header
 
 -- ---- inner
+-- a count, or what is refused, as the number that is answered
+abbrev pub number_told : Result ℕ Refusal → ℕ
+number_told (Ok n) = n
+number_told (Err r) = refusal_of (number r)
+
 -- the refusal of a list whose header has no room
 abbrev pub short_header : List Float → ℕ
 short_header l = refusal_of (first (list_fault l) 5)

@@ -2,28 +2,40 @@
 #![tactic(auto)]
 
 ghost use Rattle.std.specs.Prelude.{◌≡◌, ◌*◌, ◌≤◌, length};
-ghost use Rattle.loop_build.specs.Build as B;
 ghost use Rattle.bytes_loop.specs.Outcome.{outcome};
-ghost use Rattle.bytes_loop.specs.Layout.{header_size};
 ghost use Rattle.bytes_build.specs.Build as Bu;
 
-use bytes_loop::{HEADER, refusal};
-use loop_build::Built;
+use bytes_loop::HEADER;
+use judge::Refusal;
 use loop_header::Header;
 use minor_arc::Mode;
 
+// A count that is answered, or what is refused, as a caller is told it.
+fn tell(answer: Result<u32, Refusal>) -> u32
+    ensures { result ≡ Bu.number_told answer }
+{
+    answer.unwrap_or_else(bytes_loop::refusal)
+}
+
 // A loop written into bytes that have room for it, or refusal 5 where they cannot hold its header.
-fn leave_loop(out: &mut [u8], h: Header, positions: &[f64], normals: &[f64], classes: &[u8]) -> u32
+#[tactic(auto, using(crate::proofs::Builds::parts), unfolding(crate::specs::Build::loop_outcome))]
+fn leave_loop(
+    out: &mut [u8],
+    h: Header,
+    positions: &[f64],
+    normals: &[f64],
+    classes: &[u8],
+) -> Result<u32, Refusal>
     requires { Bu.Fitting h (length out.old) (length positions.now) (length normals.now) (length classes.now) }
-    ensures { outcome result out.new ≡ Bu.loop_outcome h positions.now normals.now classes.now out.old }
+    ensures { outcome (Bu.number_told result) out.new ≡ Bu.loop_outcome h positions.now normals.now classes.now out.old }
 {
     if out.len() < HEADER {
-        return refusal(5);
+        return Err(Refusal::NoRoom);
     }
     let n = h.count;
     let size = 3 * n;
     bytes_loop::put_loop(out, h, &positions[..size], &normals[..size], &classes[..n]);
-    n as u32
+    Ok(n as u32)
 }
 
 // Builds a list's loop in lent work arrays, whose room is that of the bytes it is to be written into.
@@ -34,15 +46,12 @@ fn build_from(
     positions: &mut [f64],
     normals: &mut [f64],
     classes: &mut [u8],
-) -> u32
+) -> Result<u32, Refusal>
     requires { Bu.Roomy (length out.old) (length positions.old) (length normals.old) (length classes.old) }
-    ensures { outcome result out.new ≡ Bu.built_outcome mode list.now out.old }
+    ensures { outcome (Bu.number_told result) out.new ≡ Bu.built_outcome mode list.now out.old }
 {
-    let b = loop_build::build(mode, list, positions, normals, classes);
-    match b {
-        Built::Refused(f) => refusal(f),
-        Built::Loop(h) => leave_loop(out, h, positions, normals, classes),
-    }
+    let h = loop_build::build(mode, list, positions, normals, classes)?;
+    leave_loop(out, h, positions, normals, classes)
 }
 
 fn build_in(
@@ -53,24 +62,24 @@ fn build_in(
     positions: &mut [f64],
     normals: &mut [f64],
     classes: &mut [u8],
-) -> u32
+) -> Result<u32, Refusal>
     requires { Bu.Roomy (length out.old) (length positions.old) (length normals.old) (length classes.old) × (8 * length floats.old ≡ length list.now) }
-    ensures { outcome result out.new ≡ Bu.built_outcome mode (Bu.list_at list.now) out.old }
+    ensures { outcome (Bu.number_told result) out.new ≡ Bu.built_outcome mode (Bu.list_at list.now) out.old }
 {
     wire::read_floats(list, 0, floats);
     build_from(mode, floats, out, positions, normals, classes)
 }
 
-// Builds a loop of positions in bytes into bytes.
-pub fn build(mode: Mode, list: &[u8], out: &mut [u8]) -> u32
-    ensures { outcome result out.new ≡ Bu.build_outcome mode list.now out.old }
+// `build` before it is told.
+fn built(mode: Mode, list: &[u8], out: &mut [u8]) -> Result<u32, Refusal>
+    ensures { outcome (Bu.number_told result) out.new ≡ Bu.build_outcome mode list.now out.old }
 {
     if list.len() % wire::VECTOR != 0 {
-        return refusal(1);
+        return Err(Refusal::Shape);
     }
     let m = list.len() / wire::VECTOR;
     if m > 512 {
-        return refusal(2);
+        return Err(Refusal::TooMany);
     }
     let given = 3 * m;
     let n = bytes_loop::corners_for(out.len());
@@ -90,21 +99,35 @@ pub fn build(mode: Mode, list: &[u8], out: &mut [u8]) -> u32
     )
 }
 
-// A header in bytes that have room for it.
-fn leave_header(b: Built, header: &mut [u8]) -> u32
-    requires { Bu.Counted (B.told b) × (header_size ≤ length header.old) }
-    ensures { outcome result header.new ≡ Bu.header_outcome (B.told b) header.old }
+// Builds a loop of positions in bytes into bytes.
+pub fn build(mode: Mode, list: &[u8], out: &mut [u8]) -> u32
+    ensures { outcome result out.new ≡ Bu.build_outcome mode list.now out.old }
 {
-    match b {
-        Built::Refused(f) => refusal(f),
-        Built::Loop(h) => {
-            bytes_loop::put_header(header, h);
-            h.count as u32
-        }
-    }
+    tell(built(mode, list, out))
 }
 
-// Builds a loop of positions in floats, with its header alone in bytes: their room is judged ahead of any writing.
+// `build_floats` before it is told: the header's room is judged ahead of any writing.
+fn built_floats(
+    mode: Mode,
+    list: &[f64],
+    header: &mut [u8],
+    positions: &mut [f64],
+    normals: &mut [f64],
+    classes: &mut [u8],
+) -> Result<u32, Refusal>
+    ensures { record { number = Bu.number_told result; header = header.new; positions = positions.new; normals = normals.new; classes = classes.new }
+        ≡ Bu.floats_outcome mode list.now header.old positions.old normals.old classes.old }
+{
+    if header.len() < HEADER {
+        loop_build::list_fault(list)?;
+        return Err(Refusal::NoRoom);
+    }
+    let h = loop_build::build(mode, list, positions, normals, classes)?;
+    bytes_loop::put_header(header, h);
+    Ok(h.count as u32)
+}
+
+// Builds a loop of positions in floats, with its header alone in bytes.
 pub fn build_floats(
     mode: Mode,
     list: &[f64],
@@ -116,11 +139,5 @@ pub fn build_floats(
     ensures { record { number = result; header = header.new; positions = positions.new; normals = normals.new; classes = classes.new }
         ≡ Bu.floats_outcome mode list.now header.old positions.old normals.old classes.old }
 {
-    if header.len() < HEADER {
-        return refusal(judge::first(loop_build::list_fault(list), 5));
-    }
-    leave_header(
-        loop_build::build(mode, list, positions, normals, classes),
-        header,
-    )
+    tell(built_floats(mode, list, header, positions, normals, classes))
 }

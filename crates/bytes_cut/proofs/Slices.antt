@@ -10,9 +10,11 @@ use lib.Dec.{ltb}
 use lib.Ieee.{Float}
 use borrow.Author.Tests.{lt-ltb, le-ltb}
 use Rattle.laws.specs.Loop.{first}
-use Rattle.laws.proofs.Loops.{first_hit}
 use Rattle.laws.proofs.Copies.{first_of_lem}
 use Rattle.ring_cut.specs.Cut as C
+use Rattle.judge.specs.declared.Refusal.{Refusal}
+use Rattle.judge.specs.Refusals.{number}
+use Rattle.judge.proofs.Numbers.{not_none}
 use Rattle.loop_header.specs.declared.State.{State}
 use Rattle.loop_header.specs.declared.State.TheVariants.{Empty, Full, Ring}
 use Rattle.loop_header.specs.declared.Header.{Header}
@@ -23,7 +25,7 @@ use Rattle.icosahedron.specs.Table.{triples}
 use Rattle.loop_triangles.specs.Triangles as T
 use Rattle.bytes_loop.specs.Outcome.{Outcome, outcome, refusal_of, outcome_by}
 use Rattle.bytes_loop.specs.Layout.{count_at, state_byte, state_of, header_at, positions_at, classes_at, header_fault, frame_fault, large_fault, many_fault, copy_fault, Array}
-use Rattle.bytes_loop.proofs.Faults.{frame_size, by_outcome}
+use Rattle.bytes_loop.proofs.Faults.{frame_size}
 use Rattle.bytes_loop.proofs.Parts.{positions_length, classes_length}
 use Rattle.bytes_ask.specs.Ask.{number_of}
 use Rattle.bytes_ask.proofs.Asks.{cut_large, is_large, large_is, copies}
@@ -72,54 +74,55 @@ pub front_blank : (m : ℕ) {k : ℕ} → k ≤ m → take {A = ℕ} k (replicat
 unfolding blank
 front_blank m {k} h = take_same 0 k m h
 
-module _ (h : Header) (ps : List Float) (cs out : List ℕ) {f : ℕ} (e : f ≡ cut_fault h ps cs) where
-  pub parts_refused : {r : ℕ} → (f ≡ 0 → ⊥) → r ≡ refusal_of f → outcome r out ≡ parts_outcome h ps cs out
+module _ (h : Header) (ps : List Float) (cs out : List ℕ) where
+  pub parts_refused : (r : Refusal) → number r ≡ cut_fault h ps cs → outcome (refusal_of (number r)) out ≡ parts_outcome h ps cs out
   unfolding parts_outcome
-  parts_refused n q = rw (q, ← e, first_hit f (room_fault h (length out)) n) (by_outcome f out _ n)
+  parts_refused r e = rw (← e)
 
-  module _ {m : ℕ} (z : f ≡ 0) (t : m ≡ triples_of h) where
+  module _ (z : 0 ≡ cut_fault h ps cs) where
     pub few : h.count ≤ 512
-    few = (cuttable h ps cs (sym e ∙ z)).most
+    few = (cuttable h ps cs (sym z)).most
 
-    pub no_room : {r : ℕ} → length out < 6 * m → r ≡ refusal_of 5 → outcome r out ≡ parts_outcome h ps cs out
-    unfolding parts_outcome room_fault
-    no_room g q = rw (q, ← e, z, ← t, lt-ltb _ _ g)
+    module _ {m : ℕ} (t : m ≡ triples_of h) where
+      pub no_room : length out < 6 * m → outcome (refusal_of 5) out ≡ parts_outcome h ps cs out
+      unfolding parts_outcome room_fault
+      no_room g = rw (← z, ← t, lt-ltb _ _ g)
 
-    pub roomy : {l : List ℕ} {x : Outcome ℕ} → 6 * m ≤ length out → l ≡ blank (3 * m) → x ≡ cut_outcome h ps cs l out → x ≡ parts_outcome h ps cs out
-    unfolding parts_outcome room_fault
-    roomy g b q = rw (← e, z, ← t, le-ltb _ _ g, ← b) q
+      pub roomy : {l : List ℕ} {x : Outcome ℕ} → 6 * m ≤ length out → l ≡ blank (3 * m) → x ≡ cut_outcome h ps cs l out → x ≡ parts_outcome h ps cs out
+      unfolding parts_outcome room_fault
+      roomy g b q = rw (← z, ← t, le-ltb _ _ g, ← b) q
 
 -- ---- a loop in bytes
 bytes_large : (s : List ℕ) → frame_fault s ≡ 0 → 512 < count_at s → cut_fault (header_at s) (positions_at s) (classes_at s) ≡ large_fault (state_of (state_byte s))
 bytes_large s e g = cut_large (header_at s) (positions_at s) (classes_at s) g (positions_length s) (classes_length s (frame_size s e))
 
-pub early : (s out : List ℕ) {f r : ℕ} → f ≡ copy_fault s → (f ≡ 0 → ⊥) → r ≡ refusal_of f → outcome r out ≡ triangles_outcome s out
+pub early : (s out : List ℕ) (r : Refusal) → number r ≡ copy_fault s → outcome (refusal_of (number r)) out ≡ triangles_outcome s out
 unfolding triangles_outcome copy_fault
-early s out {f} {r} e n q = at (frame_fault s) refl (e ∙ refl)
+early s out r e = at (frame_fault s) refl e
   where
-    at : (k : ℕ) → frame_fault s ≡ k → f ≡ first k (many_fault s) → outcome r out ≡ outcome_by k out (parts_outcome (header_at s) (positions_at s) (classes_at s) out)
-    at (suc k) a b = rw (q, b)
+    at : (k : ℕ) → frame_fault s ≡ k → number r ≡ first k (many_fault s) → outcome (refusal_of (number r)) out ≡ outcome_by k out (parts_outcome (header_at s) (positions_at s) (classes_at s) out)
+    at (suc k) a b = rw b
     at zero a b =
-        let g = is_large s (λ z. n (b ∙ z)) in
-        parts_refused (header_at s) (positions_at s) (classes_at s) out (b ∙ large_is s g ∙ sym (bytes_large s a g)) n q
+        let g = is_large s (λ z. not_none r (b ∙ z)) in
+        parts_refused (header_at s) (positions_at s) (classes_at s) out r (b ∙ large_is s g ∙ sym (bytes_large s a g))
 
-module _ (s : List ℕ) {f : ℕ} (e : f ≡ copy_fault s) (z : f ≡ 0) where
+module _ (s : List ℕ) (z : 0 ≡ copy_fault s) where
   pub array : {n a : ℕ} → n ≡ count_at s → a ≡ 3 * n → Array s a
-  array q a = let d = copies s e z in record { size = d.size; for_positions = rw (← q) a }
+  array q a = let d = copies s z refl in record { size = d.size; for_positions = rw (← q) a }
 
   pub late : (out : List ℕ) {x : Outcome ℕ} → x ≡ parts_outcome (header_at s) (positions_at s) (classes_at s) out → x ≡ triangles_outcome s out
   unfolding triangles_outcome
-  late out t = rw (copies s e z).framed t
+  late out t = rw (copies s z refl).framed t
 
 -- ---- with the header alone in bytes
-module _ (s : List ℕ) (ps : List Float) (cs out : List ℕ) {f : ℕ} (e : f ≡ header_fault s) where
-  pub header_refused : {r : ℕ} → (f ≡ 0 → ⊥) → r ≡ refusal_of f → outcome r out ≡ floats_outcome s ps cs out
+module _ (s : List ℕ) (ps : List Float) (cs out : List ℕ) where
+  pub header_refused : (r : Refusal) → number r ≡ header_fault s → outcome (refusal_of (number r)) out ≡ floats_outcome s ps cs out
   unfolding floats_outcome
-  header_refused n q = rw (q, ← e) (by_outcome f out _ n)
+  header_refused r e = rw (← e)
 
-  pub numbered : {h : Header} {u : Told} {l : List ℕ} {r : ℕ} → f ≡ 0 → h ≡ header_at s → record { answer = u; triangles = l } ≡ T.triangulate_outcome h ps cs out → r ≡ number_of u → outcome r l ≡ floats_outcome s ps cs out
+  pub numbered : {h : Header} {u : Told} {l : List ℕ} → 0 ≡ header_fault s → h ≡ header_at s → record { answer = u; triangles = l } ≡ T.triangulate_outcome h ps cs out → outcome (number_of u) l ≡ floats_outcome s ps cs out
   unfolding floats_outcome
-  numbered z p q t = rw (← e, z, ← p, t) (ap numbers_outcome q)
+  numbered z p q = rw (← z, ← p) (ap numbers_outcome q)
 
 pub triples_size : (w m : ℕ) {t : ℕ} → 3 * m ≤ w → m ≡ t → length (take {A = ℕ} (3 * m) (replicate w 0)) ≡ 3 * t
 triples_size w m h e = first_of_lem w 0 h ∙ ap (λ (k : ℕ). 3 * k) e

@@ -1,15 +1,15 @@
 -- Triangles over bytes, three u16 each, answered by their number. SCOPE 26, 34: 5 is judged by six bytes for each triangle of the result, of a ring by n - 2
 -- and before 8. Definitions only.
-use Rattle.std.specs.Prelude.{ℕ, ◌-◌, ◌*◌, ◌≤◌, cond, List, ◌++◌, length, replicate, drop, ltb, Float}
+use Rattle.std.specs.Prelude.{ℕ, ◌-◌, ◌*◌, ◌≤◌, cond, List, ◌++◌, length, replicate, drop, ltb, Float, Result}
 use Rattle.std.proofs.lemmas.List.Edits.{sets}
 use Rattle.laws.specs.Loop.{first}
+use Rattle.judge.specs.declared.Refusal.{Refusal}
 use Rattle.loop_header.specs.declared.State.{State}
 use Rattle.loop_header.specs.declared.State.TheVariants.{Empty, Full, Ring}
 use Rattle.loop_header.specs.declared.Header.{Header}
 use Rattle.loop_header.specs.Loops.{cut_fault}
 use Rattle.loop_ask.specs.Answers.{Told, refused, answer}
 use Rattle.icosahedron.specs.Table.{positions}
-use Rattle.loop_triangles.specs.declared.Cut.{Cut}
 use Rattle.loop_triangles.specs.Triangles as T
 use Rattle.wire.specs.Wire.{numbers_bytes}
 use Rattle.bytes_loop.specs.Outcome.{Outcome, outcome, refusal_of, outcome_by}
@@ -63,15 +63,15 @@ unfoldable pub full_positions_outcome : List Float → Outcome Float
 full_positions_outcome out = outcome_by (cond (ltb (length out) 36) 5 0) out (outcome 12 (positions ++ drop 36 out))
 
 -- ---- inner
-abbrev pub told_cut : Cut → Told
+abbrev pub told_cut : Result ℕ Refusal → Told
 told_cut = T.told_cut
 
 abbrev pub Small : Told → Type 0
 Small (refused f) = Unit
 Small (answer n) = n ≤ 510
 
-abbrev pub Counted : Cut → Type 0
+abbrev pub Counted : Result ℕ Refusal → Type 0
 Counted c = Small (T.told_cut c)
 
-abbrev pub laid_outcome : Cut → List ℕ → List ℕ → Outcome ℕ
+abbrev pub laid_outcome : Result ℕ Refusal → List ℕ → List ℕ → Outcome ℕ
 laid_outcome c l out = told_outcome (T.told_cut c) l out

@@ -1,7 +1,8 @@
 -- A refusal comes before a distance, of a loop that is not copied too; and what there is room for is written. Assumes nothing.
-use Prim.Native.Nat.{ℕ, zero, suc, ◌≤◌, ◌<◌}
+use Prim.Native.Nat.{ℕ, zero, suc, ◌*◌, ◌≤◌, ◌<◌}
 use mathlib.Core.Path.{◌≡◌, refl, sym, ◌∙◌}
 use mathlib.Core.List.{List, [], ◌∷◌}
+use native.Mathlib.Omega.{arith}
 use lib.ListN.{length}
 use lib.Seq.{sets}
 use lib.Ieee.{Float}
@@ -13,24 +14,12 @@ use Rattle.chord_length.specs.declared.ChordLength.{ChordLength}
 use Rattle.loop_header.specs.declared.Header.{Header}
 use Rattle.loop_header.specs.Loops.{loop_fault}
 use Rattle.loop_ask.specs.Questions.{query_fault}
-use Rattle.loop_distances.specs.Distances.{Told, refused, chord, boundary_told, boundary_answer}
+use Rattle.loop_distances.specs.Distances.{refused, chord, boundary_told, boundary_answer}
 use Rattle.bytes_loop.specs.Outcome.{outcome, refusal_of}
-use Rattle.bytes_loop.specs.Layout.{header_at, positions_at, normals_at, classes_at, frame_fault, many_fault, copy_fault}
-use Rattle.bytes_loop.proofs.Faults.{wrong_size, right_size}
-use Rattle.bytes_ask.proofs.Asks.{bytes_large, is_large, large_is, copies}
+use Rattle.bytes_loop.specs.Layout.{header_size, count_at, header_at, positions_at, normals_at, classes_at, header_fault, frame_fault, many_fault, copy_fault, Arrays}
+use Rattle.bytes_loop.proofs.Faults.{right_size, header_size_lem, copyable}
+use Rattle.bytes_ask.proofs.Asks.{bytes_large, is_large, large_is}
 use Rattle.bytes_distances.specs.Distances.{judged, told_by, far_told, chord_size, leave, leave_float}
-
--- ---- a refusal comes before what is told after it
-hit : (g : ℕ) (t : Told) → (g ≡ 0 → ⊥) → refused g ≡ judged g t
-hit zero t h = absurd (h refl)
-hit (suc k) t h = refl
-
-module _ {f g : ℕ} (t : Told) (e : f ≡ g) where
-  pub gone : (f ≡ 0 → ⊥) → refused f ≡ judged g t
-  gone h = rw e (hit g t (λ z. h (e ∙ z)))
-
-  pub went_on : {u : Told} → f ≡ 0 → u ≡ t → u ≡ judged g t
-  went_on z p = rw (← e, z) p
 
 -- ---- a loop in its parts: its refusal is what is told of any position
 module _ (h : Header) (ps ns : List Float) (cs : List ℕ) where
@@ -38,32 +27,25 @@ module _ (h : Header) (ps ns : List Float) (cs : List ℕ) where
   unfolding boundary_told query_fault
   far_refused v e = rw e
 
-  by_refused : (p : List ℕ) {k : ℕ} → loop_fault h ps ns cs ≡ suc k → told_by h ps ns cs p ≡ refused (suc k)
-  unfolding told_by
-  by_refused p e = rw e
-
   judged_far : (v : Vec3) (f : ℕ) → loop_fault h ps ns cs ≡ f → judged (first f 0) (boundary_answer h ps ns cs v) ≡ boundary_answer h ps ns cs v
   judged_far v zero e = refl
   judged_far v (suc k) e = sym (far_refused v e)
 
-  pub wrong_position : (p : List ℕ) → (length p ≡ vec_size → ⊥) → refused (first (loop_fault h ps ns cs) 1) ≡ told_by h ps ns cs p
-  unfolding told_by
-  wrong_position p z = rw (wrong_size (length p) vec_size z) (one (loop_fault h ps ns cs))
-    where
-      one : (f : ℕ) → refused (first f 1) ≡ judged (first f 1) (boundary_answer h ps ns cs (vec_of p 0))
-      one zero = refl
-      one (suc k) = refl
+  module _ (p : List ℕ) where
+    by_refused : {k : ℕ} → suc k ≡ loop_fault h ps ns cs → refused (suc k) ≡ told_by h ps ns cs p
+    unfolding told_by
+    by_refused e = rw (← e)
 
-  pub at_position : (p : List ℕ) {t : Told} → length p ≡ vec_size → t ≡ boundary_answer h ps ns cs (vec_of p 0) → t ≡ told_by h ps ns cs p
-  unfolding told_by
-  at_position p z e = rw (right_size (length p) vec_size z, judged_far (vec_of p 0) (loop_fault h ps ns cs) refl) e
+    pub at_position : length p ≡ vec_size → told_by h ps ns cs p ≡ boundary_answer h ps ns cs (vec_of p 0)
+    unfolding told_by
+    at_position z = rw (right_size (length p) vec_size z) (judged_far (vec_of p 0) (loop_fault h ps ns cs) refl)
 
 -- ---- a loop in bytes: what cannot be copied is refused so, and what can be is told by its parts
-module _ (s p : List ℕ) {f : ℕ} (e : f ≡ copy_fault s) where
+module _ (s p : List ℕ) where
   many : (k : ℕ) → (k ≡ 0 → ⊥) → loop_fault (header_at s) (positions_at s) (normals_at s) (classes_at s) ≡ k
       → refused k ≡ told_by (header_at s) (positions_at s) (normals_at s) (classes_at s) p
   many zero n d = absurd (n refl)
-  many (suc k) n d = sym (by_refused (header_at s) (positions_at s) (normals_at s) (classes_at s) p d)
+  many (suc k) n d = by_refused (header_at s) (positions_at s) (normals_at s) (classes_at s) p (sym d)
 
   framed : (g : ℕ) → frame_fault s ≡ g → (first g (many_fault s) ≡ 0 → ⊥)
       → refused (first g (many_fault s)) ≡ judged g (told_by (header_at s) (positions_at s) (normals_at s) (classes_at s) p)
@@ -72,12 +54,26 @@ module _ (s p : List ℕ) {f : ℕ} (e : f ≡ copy_fault s) where
       let large = is_large s n in
       many (many_fault s) n (bytes_large s d large ∙ sym (large_is s large))
 
-  pub early : (f ≡ 0 → ⊥) → refused f ≡ far_told s p
+  pub early : {k : ℕ} → suc k ≡ copy_fault s → refused (suc k) ≡ far_told s p
   unfolding copy_fault
-  early h = rw e (framed (frame_fault s) refl (λ z. h (e ∙ z)))
+  early e = rw e (framed (frame_fault s) refl (λ z. let n = e ∙ z in absurd (cc n)))
 
-  pub late : {t : Told} → f ≡ 0 → t ≡ told_by (header_at s) (positions_at s) (normals_at s) (classes_at s) p → t ≡ far_told s p
-  late z t = rw (copies s e z).framed t
+  pub late : 0 ≡ copy_fault s → far_told s p ≡ told_by (header_at s) (positions_at s) (normals_at s) (classes_at s) p
+  late e = rw (copyable s (sym e)).framed
+
+-- as work arrays are filled
+module _ (s : List ℕ) (e : 0 ≡ copy_fault s) where
+  pub has_header : header_size ≤ length s
+  has_header = omega (arith, (copyable s (sym e)).size)
+
+  pub few : count_at s ≤ 512
+  few = (copyable s (sym e)).most
+
+  pub arrays : {n a b : ℕ} → n ≡ count_at s → a ≡ 3 * n → b ≡ 3 * n → Arrays s a b
+  arrays q a b = record { size = (copyable s (sym e)).size; for_positions = rw (← q) a; for_normals = rw (← q) b }
+
+pub header_there : (s : List ℕ) → 0 ≡ header_fault s → header_size ≤ length s
+header_there s e = omega (arith, header_size_lem s (sym e))
 
 -- ---- room, or refusal 5
 module _ (c : ChordLength) where

@@ -10,7 +10,7 @@ ghost use Rattle.bytes_distances.specs.Distances as Far;
 
 use bytes_loop::refusal;
 use chord_length::ChordLength;
-use loop_distances::Distance;
+use judge::Refusal;
 use loop_header::Header;
 use vec3::Vec3;
 
@@ -18,64 +18,75 @@ use vec3::Vec3;
 const CHORD: usize = 8;
 
 // The squared chord written, or refusal 5 where there is no room for it.
+#[tactic(auto, using(crate::proofs::Fars::no_room, crate::proofs::Fars::room))]
 fn leave_chord(out: &mut [u8], c: ChordLength) -> u32
     ensures { outcome result out.new ≡ Far.leave (chord c) out.old }
 {
     if out.len() < CHORD {
-        return refusal(5);
+        return refusal(Refusal::NoRoom);
     }
     wire::put_float(out, 0, c.0);
     0
 }
 
-fn leave(out: &mut [u8], d: Distance) -> u32
+#[tactic(auto, unfolding(crate::specs::Distances::leave))]
+fn leave(out: &mut [u8], d: Result<ChordLength, Refusal>) -> u32
     ensures { outcome result out.new ≡ Far.leave (told_distance d) out.old }
 {
     match d {
-        Distance::Refused(f) => refusal(f),
-        Distance::Chord(c) => leave_chord(out, c),
+        Err(r) => refusal(r),
+        Ok(c) => leave_chord(out, c),
     }
 }
 
 // The same as one float.
+#[tactic(auto, using(crate::proofs::Fars::no_float, crate::proofs::Fars::a_float))]
 fn leave_float_chord(out: &mut [f64], c: ChordLength) -> u32
     ensures { outcome result out.new ≡ Far.leave_float (chord c) out.old }
 {
     if out.len() < 1 {
-        return refusal(5);
+        return refusal(Refusal::NoRoom);
     }
     out[0] = c.0;
     0
 }
 
-fn leave_float(out: &mut [f64], d: Distance) -> u32
+#[tactic(auto, unfolding(crate::specs::Distances::leave_float))]
+fn leave_float(out: &mut [f64], d: Result<ChordLength, Refusal>) -> u32
     ensures { outcome result out.new ≡ Far.leave_float (told_distance d) out.old }
 {
     match d {
-        Distance::Refused(f) => refusal(f),
-        Distance::Chord(c) => leave_float_chord(out, c),
+        Err(r) => refusal(r),
+        Ok(c) => leave_float_chord(out, c),
     }
 }
 
 // How far from a loop in its parts. A position whose length is wrong comes after the loop's own refusals.
+#[tactic(auto, using(bytes_loop::proofs::Faults::wrong_size, crate::proofs::Fars::at_position), unfolding(crate::specs::Distances::told_by))]
 fn told_by(
     h: Header,
     positions: &[f64],
     normals: &[f64],
     classes: &[u8],
     position: &[u8],
-) -> Distance
+) -> Result<ChordLength, Refusal>
     ensures { told_distance result ≡ Far.told_by h positions.now normals.now classes.now position.now }
 {
     if position.len() != wire::VECTOR {
-        let f = loop_header::loop_fault(h, positions, normals, classes);
-        return Distance::Refused(judge::first(f, 1));
+        loop_header::loop_fault(h, positions, normals, classes)?;
+        return Err(Refusal::Shape);
     }
     loop_distances::distance_to_boundary(h, positions, normals, classes, wire::vec_at(position, 0))
 }
 
 // `told` with its work arrays.
-fn told_in(s: &[u8], position: &[u8], positions: &mut [f64], normals: &mut [f64]) -> Distance
+#[tactic(auto, using(bytes_loop::proofs::Parts::classes_read))]
+fn told_in(
+    s: &[u8],
+    position: &[u8],
+    positions: &mut [f64],
+    normals: &mut [f64],
+) -> Result<ChordLength, Refusal>
     requires { F.Arrays s.now (length positions.old) (length normals.old) }
     ensures { told_distance result ≡ Far.told_by (F.header_at s.now) (F.positions_at s.now) (F.normals_at s.now) (F.classes_at s.now) position.now }
 {
@@ -91,13 +102,11 @@ fn told_in(s: &[u8], position: &[u8], positions: &mut [f64], normals: &mut [f64]
 }
 
 // How far from a loop in bytes.
-fn told(s: &[u8], position: &[u8]) -> Distance
+#[tactic(auto, using(crate::proofs::Fars::late, crate::proofs::Fars::has_header, crate::proofs::Fars::few))]
+fn told(s: &[u8], position: &[u8]) -> Result<ChordLength, Refusal>
     ensures { told_distance result ≡ Far.far_told s.now position.now }
 {
-    let f = bytes_loop::copy_fault(s);
-    if f != 0 {
-        return Distance::Refused(f);
-    }
+    bytes_loop::copy_fault(s)?;
     let size = 3 * bytes_loop::count_at(s);
     let mut positions = [0.0f64; 1536];
     let mut normals = [0.0f64; 1536];
@@ -105,19 +114,17 @@ fn told(s: &[u8], position: &[u8]) -> Distance
 }
 
 // How far from a loop whose header alone is bytes.
+#[tactic(auto, using(crate::proofs::Fars::header_there))]
 fn told_floats(
     header: &[u8],
     positions: &[f64],
     normals: &[f64],
     classes: &[u8],
     p: Vec3,
-) -> Distance
+) -> Result<ChordLength, Refusal>
     ensures { told_distance result ≡ Far.floats_told header.now positions.now normals.now classes.now p }
 {
-    let f = bytes_loop::header_fault(header);
-    if f != 0 {
-        return Distance::Refused(f);
-    }
+    bytes_loop::header_fault(header)?;
     loop_distances::distance_to_boundary(
         bytes_loop::header_at(header),
         positions,
@@ -128,13 +135,10 @@ fn told_floats(
 }
 
 // How far from an arc in bytes.
-fn told_arc(arc: &[u8], position: &[u8]) -> Distance
+fn told_arc(arc: &[u8], position: &[u8]) -> Result<ChordLength, Refusal>
     ensures { told_distance result ≡ Far.arc_told arc.now position.now }
 {
-    let f = bytes_arcs::next_judged(arc, position, wire::VECTOR);
-    if f != 0 {
-        return Distance::Refused(f);
-    }
+    bytes_arcs::next_judged(arc, position, wire::VECTOR)?;
     loop_distances::distance_to(bytes_arcs::arc_at(arc), wire::vec_at(position, 0))
 }
 

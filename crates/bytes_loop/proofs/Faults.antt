@@ -1,6 +1,6 @@
 -- Refusals by a length, and what none of them tells. Assumes nothing.
 use Prim.Native.Nat.{ℕ, zero, suc, ◌≤◌}
-use mathlib.Core.Path.{◌≡◌, refl}
+use mathlib.Core.Path.{◌≡◌, refl, sym}
 use mathlib.Core.Bool.{Bool, true, false, cond}
 use mathlib.Core.List.{List}
 use native.Mathlib.Omega.{arith}
@@ -51,6 +51,10 @@ module _ (s : List ℕ) where
   pub frame_size : frame_fault s ≡ 0 → length s ≡ loop_size (count_at s)
   unfolding frame_fault
   frame_size e = size_right (length s) (loop_size (count_at s)) (first_zero_lem _ _ e).0
+
+-- as what reads the header needs it
+pub framed : (s : List ℕ) → 0 ≡ frame_fault s → header_size ≤ length s
+framed s e = let z = frame_size s (sym e) in omega arith
 
 large_not_none : (t : State) → large_fault t ≡ 0 → ⊥
 large_not_none Empty e = omega arith

@@ -1,13 +1,11 @@
 -- SCOPE 32: a loop in bytes: 88 of a header, 24n of positions, 24n of normals, n of classes; marks above 15 and the four zero bytes are passed over.
 -- SCOPE 34: a state byte above 2 or a length that does not agree is refusal 1. Definitions only.
-use Rattle.std.specs.Prelude.{ℕ, ◌+◌, ◌-◌, ◌*◌, ◌/◌, ◌%◌, ◌≤◌, ◌≡◌, Bool, true, false, cond, List, [], ◌∷◌, ◌++◌, length, get_or, drop, eqb, ltb, Float, if◌then◌else◌}
+use Rattle.std.specs.Prelude.{ℕ, ◌+◌, ◌-◌, ◌*◌, ◌/◌, ◌%◌, ◌≤◌, ◌≡◌, Bool, true, false, cond, List, [], ◌∷◌, Option, None, Some, is_some, unwrap_or, ◌++◌, length, get_or, drop, eqb, ltb, Float, if◌then◌else◌}
 use Rattle.laws.specs.Loop.{first}
 use Rattle.vec3.specs.declared.Vec3.{Vec3}
 use Rattle.vec3.specs.Vec.{origin}
 use Rattle.chord_length.specs.Chords.{squared}
 use Rattle.cap.specs.declared.Cap.{Cap}
-use Rattle.vec3.specs.declared.Insides.{Insides}
-use Rattle.vec3.specs.declared.Insides.TheVariants.{Absent, Two}
 use Rattle.minor_arc.specs.declared.Mode.{Mode}
 use Rattle.minor_arc.specs.declared.Mode.TheVariants.{Plain, Long}
 use Rattle.loop_header.specs.declared.State.{State}
@@ -50,8 +48,8 @@ abbrev pub cap_at : List ℕ → Cap
 cap_at s = record { centre = vec_of s 8; radius = squared (float_of s 32) }
 
 -- SCOPE 32: insides are there where mark 4 says so, judged and used whatever the count and state; otherwise bytes 40 to 87 are not looked at
-unfoldable pub insides_at : List ℕ → Insides
-insides_at s = if marked (marks_at s) 4 then Two (vec_of s 40) (vec_of s 64) else Absent
+unfoldable pub insides_at : List ℕ → Option (Vec3 × Vec3)
+insides_at s = if marked (marks_at s) 4 then Some (vec_of s 40, vec_of s 64) else None
 
 -- SCOPE 57: mark 8 says long
 abbrev pub mode_of : Bool → Mode
@@ -113,17 +111,12 @@ state_code = L.state_code
 unfoldable pub mark_if : Bool → ℕ → ℕ
 mark_if b mark = cond b mark 0
 
-abbrev pub are_there : Insides → Bool
-are_there Absent = false
-are_there (Two a b) = true
+-- absent insides are two vectors of zeros
+abbrev pub first_inside : Option (Vec3 × Vec3) → Vec3
+first_inside i = (unwrap_or i (origin, origin)).0
 
-abbrev pub first_inside : Insides → Vec3
-first_inside Absent = origin
-first_inside (Two a b) = a
-
-abbrev pub second_inside : Insides → Vec3
-second_inside Absent = origin
-second_inside (Two a b) = b
+abbrev pub second_inside : Option (Vec3 × Vec3) → Vec3
+second_inside i = (unwrap_or i (origin, origin)).1
 
 abbrev pub is_long : Mode → Bool
 is_long Plain = false
@@ -131,7 +124,7 @@ is_long Long = true
 
 -- SCOPE 57: 1 reversed, 2 weak, 4 insides, 8 long
 abbrev pub marks_of : Header → ℕ
-marks_of h = mark_if h.reversed 1 + mark_if h.weak 2 + mark_if (are_there h.insides) 4 + mark_if (is_long h.mode) 8
+marks_of h = mark_if h.reversed 1 + mark_if h.weak 2 + mark_if (is_some h.insides) 4 + mark_if (is_long h.mode) 8
 
 abbrev pub front_bytes : ℕ → ℕ → ℕ → List ℕ
 front_bytes count code marks = bytes2 count ++ (code ∷ marks ∷ 0 ∷ 0 ∷ 0 ∷ 0 ∷ [])
@@ -139,7 +132,7 @@ front_bytes count code marks = bytes2 count ++ (code ∷ marks ∷ 0 ∷ 0 ∷ 0
 abbrev pub cap_bytes : Cap → List ℕ
 cap_bytes c = vec_bytes c.centre ++ float_bytes c.radius.0
 
-abbrev pub insides_bytes : Insides → List ℕ
+abbrev pub insides_bytes : Option (Vec3 × Vec3) → List ℕ
 insides_bytes i = vec_bytes (first_inside i) ++ vec_bytes (second_inside i)
 
 unfoldable pub header_bytes : Header → List ℕ

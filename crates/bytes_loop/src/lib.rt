@@ -3,23 +3,25 @@
 
 ghost use Rattle.std.specs.Prelude.{◌≡◌, [], ◌∷◌, ◌+◌, ◌*◌, ◌≤◌, ◌<◌, length};
 ghost use Rattle.std.proofs.lemmas.List.Edits.{sets};
+ghost use Rattle.judge.specs.Refusals.{number, number_of};
 ghost use Rattle.bytes_loop.specs.Outcome.{refusal_of};
 ghost use Rattle.bytes_loop.specs.Layout as F;
 
 use cap::Cap;
 use chord_length::ChordLength;
+use judge::Refusal;
 use loop_header::{Header, State};
 use minor_arc::Mode;
-use vec3::{Insides, Vec3};
+use vec3::Vec3;
 
 // How many bytes a header has; a loop's positions begin after it.
 pub const HEADER: usize = 88;
 
 // A refusal as it is answered.
-pub fn refusal(f: u8) -> u32
-    ensures { result ≡ refusal_of f }
+pub fn refusal(r: Refusal) -> u32
+    ensures { result ≡ refusal_of (number r) }
 {
-    65536 + f as u32
+    65536 + r.number() as u32
 }
 
 fn state_of(code: u8) -> State
@@ -52,14 +54,15 @@ fn cap_at(s: &[u8]) -> Cap
 }
 
 // The insides, by mark 4 alone: without it their bytes are not read.
-fn insides_at(s: &[u8]) -> Insides
+#[tactic(auto, unfolding(crate::specs::Layout::insides_at))]
+fn insides_at(s: &[u8]) -> Option<(Vec3, Vec3)>
     requires { F.header_size ≤ length s.now }
     ensures { result ≡ F.insides_at s.now }
 {
     if has_mark(s[3], 4) {
-        Insides::Two(wire::vec_at(s, 40), wire::vec_at(s, 64))
+        Some((wire::vec_at(s, 40), wire::vec_at(s, 64)))
     } else {
-        Insides::Absent
+        None
     }
 }
 
@@ -101,58 +104,72 @@ pub fn header_at(s: &[u8]) -> Header
     }
 }
 
+// Refusal 1 of a state byte that stands for no state.
+#[tactic(auto, unfolding(crate::specs::Layout::state_fault))]
+fn state_fault(s: &[u8]) -> Result<(), Refusal>
+    requires { F.header_size ≤ length s.now }
+    ensures { number_of result ≡ F.state_fault s.now }
+{
+    if s[2] > 2 {
+        Err(Refusal::Shape)
+    } else {
+        Ok(())
+    }
+}
+
 // Refusal 1 of a header that stands alone: its length, and its state.
-pub fn header_fault(s: &[u8]) -> u8
-    ensures { result ≡ F.header_fault s.now }
+#[tactic(auto, using(crate::proofs::Faults::header_wrong, crate::proofs::Faults::header_state))]
+pub fn header_fault(s: &[u8]) -> Result<(), Refusal>
+    ensures { number_of result ≡ F.header_fault s.now }
 {
     if s.len() != HEADER {
-        return 1;
+        return Err(Refusal::Shape);
     }
-    if s[2] > 2 { 1 } else { 0 }
+    state_fault(s)
 }
 
 // Refusal 1 of a loop in bytes: its length, and its state.
-fn frame_fault(s: &[u8]) -> u8
-    ensures { result ≡ F.frame_fault s.now }
+#[tactic(auto, using(crate::proofs::Faults::frame_wrong, crate::proofs::Faults::frame_state))]
+fn frame_fault(s: &[u8]) -> Result<(), Refusal>
+    ensures { number_of result ≡ F.frame_fault s.now }
 {
     if s.len() < HEADER {
-        return 1;
+        return Err(Refusal::Shape);
     }
     if s.len() != HEADER + 49 * count_at(s) {
-        return 1;
+        return Err(Refusal::Shape);
     }
-    if s[2] > 2 { 1 } else { 0 }
+    state_fault(s)
 }
 
 // What a count above 512 is refused for: 1 where it does not fit its state, which comes first.
-fn large_fault(state: State) -> u8
-    ensures { result ≡ F.large_fault state }
+fn large_fault(state: State) -> Refusal
+    ensures { number result ≡ F.large_fault state }
 {
     match state {
-        State::Empty => 1,
-        State::Full => 1,
-        State::Ring => 2,
+        State::Empty => Refusal::Shape,
+        State::Full => Refusal::Shape,
+        State::Ring => Refusal::TooMany,
     }
 }
 
-fn many_fault(s: &[u8]) -> u8
+#[tactic(auto, unfolding(crate::specs::Layout::many_fault))]
+fn many_fault(s: &[u8]) -> Result<(), Refusal>
     requires { F.header_size ≤ length s.now }
-    ensures { result ≡ F.many_fault s.now }
+    ensures { number_of result ≡ F.many_fault s.now }
 {
     if count_at(s) > 512 {
-        return large_fault(state_of(s[2]));
+        return Err(large_fault(state_of(s[2])));
     }
-    0
+    Ok(())
 }
 
 // What keeps a loop in bytes from being copied into work arrays.
-pub fn copy_fault(s: &[u8]) -> u8
-    ensures { result ≡ F.copy_fault s.now }
+#[tactic(auto, using(crate::proofs::Faults::framed), unfolding(crate::specs::Layout::copy_fault))]
+pub fn copy_fault(s: &[u8]) -> Result<(), Refusal>
+    ensures { number_of result ≡ F.copy_fault s.now }
 {
-    let f = frame_fault(s);
-    if f != 0 {
-        return f;
-    }
+    frame_fault(s)?;
     many_fault(s)
 }
 
@@ -212,51 +229,19 @@ fn mark_if(b: bool, mark: u8) -> u8
     if b { mark } else { 0 }
 }
 
-fn are_there(i: Insides) -> bool
-    ensures { result ≡ F.are_there i }
-{
-    match i {
-        Insides::Absent => false,
-        Insides::Two(_, _) => true,
-    }
-}
-
-fn first_inside(i: Insides) -> Vec3
-    ensures { result ≡ F.first_inside i }
-{
-    match i {
-        Insides::Absent => Vec3::ZERO,
-        Insides::Two(a, _) => a,
-    }
-}
-
-fn second_inside(i: Insides) -> Vec3
-    ensures { result ≡ F.second_inside i }
-{
-    match i {
-        Insides::Absent => Vec3::ZERO,
-        Insides::Two(_, b) => b,
-    }
-}
-
 fn is_long(mode: Mode) -> bool
     ensures { result ≡ F.is_long mode }
 {
-    match mode {
-        Mode::Plain => false,
-        Mode::Long => true,
-    }
+    mode == Mode::Long
 }
 
 fn marks_of(h: Header) -> u8
     ensures { result ≡ F.marks_of h }
 {
-    let insides = h.insides;
-    let mode = h.mode;
     let a = mark_if(h.reversed, 1);
     let b = mark_if(h.weak, 2);
-    let c = mark_if(are_there(insides), 4);
-    a + b + c + mark_if(is_long(mode), 8)
+    let c = mark_if(h.insides.is_some(), 4);
+    a + b + c + mark_if(is_long(h.mode), 8)
 }
 
 fn put_pair(out: &mut [u8], at: usize, a: u8, b: u8)
@@ -286,12 +271,14 @@ fn put_cap(out: &mut [u8], c: Cap)
     wire::put_float(out, 32, c.radius.0);
 }
 
-fn put_insides(out: &mut [u8], i: Insides)
+// Absent insides are two vectors of zeros.
+fn put_insides(out: &mut [u8], i: Option<(Vec3, Vec3)>)
     requires { F.header_size ≤ length out.old }
     ensures { out.new ≡ sets out.old 40 (F.insides_bytes i) }
 {
-    wire::put_vec(out, 40, first_inside(i));
-    wire::put_vec(out, 64, second_inside(i));
+    let (a, b) = i.unwrap_or((Vec3::ZERO, Vec3::ZERO));
+    wire::put_vec(out, 40, a);
+    wire::put_vec(out, 64, b);
 }
 
 // A header's bytes.
@@ -300,10 +287,9 @@ pub fn put_header(out: &mut [u8], h: Header)
     ensures { out.new ≡ sets out.old 0 (F.header_bytes h) }
 {
     let state = h.state;
-    let insides = h.insides;
     put_front(out, h.count, state_code(state), marks_of(h));
     put_cap(out, h.cap);
-    put_insides(out, insides);
+    put_insides(out, h.insides);
 }
 
 // A loop's bytes: its header, its positions, its normals and its classes.

@@ -3,10 +3,9 @@ use Rattle.std.specs.Prelude.{ℕ, List, Float}
 use Rattle.laws.specs.Loop.{first}
 use Rattle.loop_header.specs.declared.Header.{Header}
 use Rattle.loop_header.specs.Loops.{loop_fault}
-use Rattle.loop_ask.specs.Answers.{Told, judged}
+use Rattle.loop_ask.specs.Answers.{Told, refused, judged}
 use Rattle.loop_ask.specs.Questions.{equivalent_answer}
 use Rattle.loop_relate.specs.Relations.{relate_answer}
-use Rattle.bytes_loop.specs.Outcome.{refusal_of}
 use Rattle.bytes_loop.specs.Layout.{header_at, positions_at, normals_at, classes_at, header_fault, frame_fault}
 use Rattle.bytes_pair.specs.declared.Comparison.{Comparison}
 use Rattle.bytes_pair.specs.declared.Comparison.TheVariants.{Relation, Equivalence}
@@ -33,5 +32,5 @@ abbrev pub floats_told : List ℕ → List Float → List Float → List ℕ →
 floats_told a ps ns cs b qs ms ds = judged (header_fault a) (next_told Relation (header_at a) ps ns cs (header_fault b) (header_at b) qs ms ds)
 
 -- ---- inner
-abbrev pub no_pair : Header → List Float → List Float → List ℕ → ℕ → ℕ
-no_pair h ps ns cs fault = refusal_of (first (loop_fault h ps ns cs) fault)
+abbrev pub no_pair : Header → List Float → List Float → List ℕ → ℕ → Told
+no_pair h ps ns cs fault = refused (first (loop_fault h ps ns cs) fault)

@@ -2,14 +2,16 @@
 #![tactic(auto)]
 
 ghost use Rattle.std.specs.Prelude.{◌≡◌, length};
+ghost use Rattle.judge.specs.Refusals.{number};
 ghost use Rattle.bytes_ask.specs.Ask as As;
 ghost use Rattle.bytes_loop.specs.Layout as F;
 ghost use Rattle.loop_relate.specs.Relations as Rel;
+ghost use Rattle.bytes_pair.specs.declared.Comparison.TheVariants as C;
 ghost use Rattle.bytes_pair.specs.Pair as Pa;
 
-use bytes_loop::refusal;
+use judge::Refusal;
 use loop_header::Header;
-use loop_relate::Related;
+use loop_relate::Relation;
 
 #[derive(Clone, Copy)]
 pub enum Comparison {
@@ -17,17 +19,16 @@ pub enum Comparison {
     Equivalence,
 }
 
-fn related(r: Related) -> u32
-    ensures { result ≡ As.number_of (Rel.told_related r) }
+fn related(r: Relation) -> u32
+    ensures { result ≡ Rel.relation_code r }
 {
     match r {
-        Related::Refused(f) => refusal(f),
-        Related::Disjoint => 0,
-        Related::Touching => 1,
-        Related::Intersecting => 2,
-        Related::Containing => 3,
-        Related::Within => 4,
-        Related::Equal => 5,
+        Relation::Disjoint => 0,
+        Relation::Touching => 1,
+        Relation::Intersecting => 2,
+        Relation::Containing => 3,
+        Relation::Within => 4,
+        Relation::Equal => 5,
     }
 }
 
@@ -42,27 +43,35 @@ fn compare(
     others: &[f64],
     theirs: &[f64],
     codes: &[u8],
-) -> u32
-    ensures { result ≡ As.number_of (Pa.told_of q h positions.now normals.now classes.now o others.now theirs.now codes.now) }
+) -> Result<u32, Refusal>
+    ensures { As.told_number result ≡ Pa.told_of q h positions.now normals.now classes.now o others.now theirs.now codes.now }
 {
     match q {
-        Comparison::Relation => related(loop_relate::relate(
-            h, positions, normals, classes, o, others, theirs, codes,
-        )),
-        Comparison::Equivalence => bytes_ask::answered(loop_ask::is_equivalent(
-            h, positions, normals, classes, o, others, theirs, codes,
-        )),
+        Comparison::Relation => {
+            loop_relate::relate(h, positions, normals, classes, o, others, theirs, codes).map(
+                related,
+            )
+        }
+        Comparison::Equivalence => {
+            loop_ask::is_equivalent(h, positions, normals, classes, o, others, theirs, codes).map(
+                bytes_ask::answered,
+            )
+        }
     }
 }
 
 // A refusal of the second loop's bytes: the first loop's own come before it.
-fn no_pair(h: Header, positions: &[f64], normals: &[f64], classes: &[u8], fault: u8) -> u32
-    ensures { result ≡ Pa.no_pair h positions.now normals.now classes.now fault }
+fn no_pair(
+    h: Header,
+    positions: &[f64],
+    normals: &[f64],
+    classes: &[u8],
+    fault: Refusal,
+) -> Result<u32, Refusal>
+    ensures { As.told_number result ≡ Pa.no_pair h positions.now normals.now classes.now (number fault) }
 {
-    refusal(judge::first(
-        loop_header::loop_fault(h, positions, normals, classes),
-        fault,
-    ))
+    loop_header::loop_fault(h, positions, normals, classes)?;
+    Err(fault)
 }
 
 // The second loop copied into its work arrays.
@@ -75,9 +84,9 @@ fn copy_second(
     b: &[u8],
     others: &mut [f64],
     theirs: &mut [f64],
-) -> u32
+) -> Result<u32, Refusal>
     requires { F.Arrays b.now (length others.old) (length theirs.old) }
-    ensures { result ≡ As.number_of (Pa.told_of q h positions.now normals.now classes.now (F.header_at b.now) (F.positions_at b.now) (F.normals_at b.now) (F.classes_at b.now)) }
+    ensures { As.told_number result ≡ Pa.told_of q h positions.now normals.now classes.now (F.header_at b.now) (F.positions_at b.now) (F.normals_at b.now) (F.classes_at b.now) }
 {
     let from = bytes_loop::classes_from(b);
     bytes_loop::read_vectors(b, others, theirs);
@@ -96,6 +105,7 @@ fn copy_second(
 }
 
 // A loop in its parts beside one in bytes.
+#[tactic(auto, using(crate::proofs::Pairs::second_early, crate::proofs::Pairs::second_late, bytes_ask::proofs::Asks::copied_header, bytes_ask::proofs::Asks::copied_most))]
 fn against(
     q: Comparison,
     h: Header,
@@ -103,12 +113,11 @@ fn against(
     normals: &[f64],
     classes: &[u8],
     b: &[u8],
-) -> u32
-    ensures { result ≡ As.number_of (Pa.against_told q h positions.now normals.now classes.now b.now) }
+) -> Result<u32, Refusal>
+    ensures { As.told_number result ≡ Pa.against_told q h positions.now normals.now classes.now b.now }
 {
-    let f = bytes_loop::copy_fault(b);
-    if f != 0 {
-        return no_pair(h, positions, normals, classes, f);
+    if let Err(fault) = bytes_loop::copy_fault(b) {
+        return no_pair(h, positions, normals, classes, fault);
     }
     let size = 3 * bytes_loop::count_at(b);
     let mut others = [0.0f64; 1536];
@@ -126,9 +135,15 @@ fn against(
 }
 
 // The first loop copied into its work arrays.
-fn copy_first(q: Comparison, a: &[u8], b: &[u8], positions: &mut [f64], normals: &mut [f64]) -> u32
+fn copy_first(
+    q: Comparison,
+    a: &[u8],
+    b: &[u8],
+    positions: &mut [f64],
+    normals: &mut [f64],
+) -> Result<u32, Refusal>
     requires { F.Arrays a.now (length positions.old) (length normals.old) }
-    ensures { result ≡ As.number_of (Pa.against_told q (F.header_at a.now) (F.positions_at a.now) (F.normals_at a.now) (F.classes_at a.now) b.now) }
+    ensures { As.told_number result ≡ Pa.against_told q (F.header_at a.now) (F.positions_at a.now) (F.normals_at a.now) (F.classes_at a.now) b.now }
 {
     let from = bytes_loop::classes_from(a);
     bytes_loop::read_vectors(a, positions, normals);
@@ -142,18 +157,73 @@ fn copy_first(q: Comparison, a: &[u8], b: &[u8], positions: &mut [f64], normals:
     )
 }
 
-// What two loops in bytes are to each other.
-pub fn pair(q: Comparison, a: &[u8], b: &[u8]) -> u32
-    ensures { result ≡ As.number_of (Pa.pair_told q a.now b.now) }
+// `pair` before it is told.
+#[tactic(auto, using(crate::proofs::Pairs::first_early, crate::proofs::Pairs::first_late, bytes_ask::proofs::Asks::copied_header, bytes_ask::proofs::Asks::copied_most))]
+fn paired(q: Comparison, a: &[u8], b: &[u8]) -> Result<u32, Refusal>
+    ensures { As.told_number result ≡ Pa.pair_told q a.now b.now }
 {
-    let f = bytes_loop::copy_fault(a);
-    if f != 0 {
-        return refusal(f);
-    }
+    bytes_loop::copy_fault(a)?;
     let size = 3 * bytes_loop::count_at(a);
     let mut positions = [0.0f64; 1536];
     let mut normals = [0.0f64; 1536];
     copy_first(q, a, b, &mut positions[..size], &mut normals[..size])
+}
+
+// What two loops in bytes are to each other.
+pub fn pair(q: Comparison, a: &[u8], b: &[u8]) -> u32
+    ensures { result ≡ As.number_of (Pa.pair_told q a.now b.now) }
+{
+    bytes_ask::tell(paired(q, a, b))
+}
+
+// A loop in its parts beside one whose header alone is bytes.
+#[tactic(auto, using(crate::proofs::Pairs::other_wrong, crate::proofs::Pairs::other_fine, bytes_ask::proofs::Asks::headed))]
+fn against_floats(
+    h: Header,
+    positions: &[f64],
+    normals: &[f64],
+    classes: &[u8],
+    other: &[u8],
+    others: &[f64],
+    theirs: &[f64],
+    codes: &[u8],
+) -> Result<u32, Refusal>
+    ensures { As.told_number result ≡ Pa.next_told C.Relation h positions.now normals.now classes.now (F.header_fault other.now) (F.header_at other.now) others.now theirs.now codes.now }
+{
+    if let Err(fault) = bytes_loop::header_fault(other) {
+        return no_pair(h, positions, normals, classes, fault);
+    }
+    let o = bytes_loop::header_at(other);
+    compare(
+        Comparison::Relation,
+        h,
+        positions,
+        normals,
+        classes,
+        o,
+        others,
+        theirs,
+        codes,
+    )
+}
+
+// `pair_floats` before it is told.
+#[tactic(auto, using(bytes_ask::proofs::Asks::headed))]
+fn paired_floats(
+    header: &[u8],
+    positions: &[f64],
+    normals: &[f64],
+    classes: &[u8],
+    other: &[u8],
+    others: &[f64],
+    theirs: &[f64],
+    codes: &[u8],
+) -> Result<u32, Refusal>
+    ensures { As.told_number result ≡ Pa.floats_told header.now positions.now normals.now classes.now other.now others.now theirs.now codes.now }
+{
+    bytes_loop::header_fault(header)?;
+    let h = bytes_loop::header_at(header);
+    against_floats(h, positions, normals, classes, other, others, theirs, codes)
 }
 
 // The relation of two loops whose headers alone are bytes.
@@ -169,25 +239,7 @@ pub fn pair_floats(
 ) -> u32
     ensures { result ≡ As.number_of (Pa.floats_told header.now positions.now normals.now classes.now other.now others.now theirs.now codes.now) }
 {
-    let f = bytes_loop::header_fault(header);
-    if f != 0 {
-        return refusal(f);
-    }
-    let h = bytes_loop::header_at(header);
-    let g = bytes_loop::header_fault(other);
-    if g != 0 {
-        return no_pair(h, positions, normals, classes, g);
-    }
-    let o = bytes_loop::header_at(other);
-    compare(
-        Comparison::Relation,
-        h,
-        positions,
-        normals,
-        classes,
-        o,
-        others,
-        theirs,
-        codes,
-    )
+    bytes_ask::tell(paired_floats(
+        header, positions, normals, classes, other, others, theirs, codes,
+    ))
 }

@@ -45,6 +45,7 @@ impl Cap {
     }
 
     // Whether the two have a point in common; an empty one has none with any.
+    #[tactic(auto, unfolding(crate::specs::Caps::intersects))]
     pub fn intersects(self, o: Cap) -> bool
         ensures { result ≡ Caps.intersects self o }
     {
@@ -81,6 +82,7 @@ fn farthest(ps: &[f64], n: usize, centre: Vec3) -> ChordLength
 }
 
 // The cap round a centre with the radius grown, or the full one from a quarter circle on: an edge could bulge out of it.
+#[tactic(auto, unfolding(crate::specs::Caps::grown))]
 fn grown(centre: Vec3, farthest: ChordLength) -> Cap
     ensures { result ≡ Caps.grown centre farthest }
 {
@@ -93,6 +95,7 @@ fn grown(centre: Vec3, farthest: ChordLength) -> Cap
 }
 
 // The bounding cap of the first n positions, in the order given: the full one where they sum to nothing.
+#[tactic(auto, unfolding(crate::specs::Caps::bounding_cap))]
 pub fn bounding_cap(ps: &[f64], n: usize) -> Cap
     requires { 3 * n ≤ length ps.now }
     ensures { result ≡ Caps.bounding_cap ps.now n }

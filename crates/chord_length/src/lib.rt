@@ -19,6 +19,7 @@ impl ChordLength {
     pub const MAX: ChordLength = ChordLength(4.0);
 
     // At most 4, and 4 for a NaN, as the source's `min` has it.
+    #[tactic(auto, unfolding(crate::specs::Chords::from_squared_length))]
     pub fn from_squared_length(l2: f64) -> ChordLength
         ensures { result ≡ Chords.from_squared_length l2 }
     {
@@ -37,6 +38,7 @@ impl ChordLength {
     }
 
     // The chord of the two central angles' sum, for two chords above 0 that add to less than 4.
+    #[tactic(auto, unfolding(crate::specs::Chords::joined))]
     fn joined(self, o: ChordLength) -> ChordLength
         ensures { result ≡ Chords.joined self.0 o.0 }
     {
@@ -46,6 +48,7 @@ impl ChordLength {
     }
 
     // The chord of the sum of the two central angles: a negative one gives the other, then a zero one gives the other, then 4 from 4 on.
+    #[tactic(auto, unfolding(crate::specs::Chords::sum))]
     pub fn add(self, o: ChordLength) -> ChordLength
         ensures { result ≡ Chords.sum self o }
     {
@@ -68,6 +71,7 @@ impl ChordLength {
     }
 
     // The larger of two, the later where neither is: what the source's `max_by_key` keeps.
+    #[tactic(auto, unfolding(crate::specs::Chords::later_max))]
     pub fn later_max(self, o: ChordLength) -> ChordLength
         ensures { result ≡ Chords.later_max self o }
     {
@@ -76,6 +80,7 @@ impl ChordLength {
     }
 
     // The smaller of two, the first where neither is: the source's `min`.
+    #[tactic(auto, unfolding(crate::specs::Chords::least))]
     pub fn least(self, o: ChordLength) -> ChordLength
         ensures { result ≡ Chords.least self o }
     {

@@ -1,10 +1,8 @@
 // The icosahedron that stands for the full loop: 12 positions, recorded bit for bit from the Rust (docs/CONSTANTS.md), and 20 triples over them.
 #![tactic(auto)]
 
-ghost use Rattle.std.specs.Prelude.{◌≡◌, ◌++◌, ◌≤◌, ◌<◌, length, drop};
+ghost use Rattle.std.specs.Prelude.{◌≡◌, ◌++◌, ◌≤◌, length, drop};
 ghost use Rattle.icosahedron.specs.Table as T;
-
-use vec3::Vec3;
 
 const POSITIONS: [f64; 36] = [
     0.0,
@@ -50,34 +48,20 @@ const TRIPLES: [u16; 60] = [
     7, 2, 7, 8, 3, 8, 9, 4, 9, 10, 5, 10, 6, 1, 6, 7, 11, 7, 8, 11, 8, 9, 11, 9, 10, 11, 10, 6, 11,
 ];
 
-// The position numbered i.
-pub fn position(i: usize) -> Vec3
-    requires { i < 12 }
-    ensures { result ≡ T.position_at i }
-{
-    Vec3 {
-        x: POSITIONS[3 * i],
-        y: POSITIONS[3 * i + 1],
-        z: POSITIONS[3 * i + 2],
-    }
-}
-
 // The positions, into the front of a lent list.
+#[tactic(auto, unfolding(crate::specs::Table::positions))]
 pub fn write_positions(out: &mut [f64])
     requires { 36 ≤ length out.old }
     ensures { out.new ≡ T.positions ++ drop 36 out.old }
 {
-    for i in 0..12 {
-        vec3::put(out, i, position(i));
-    }
+    copies::copy_front(&POSITIONS, out);
 }
 
 // The triples, into the front of a lent list.
+#[tactic(auto, unfolding(crate::specs::Table::triples))]
 pub fn write_triples(out: &mut [u16])
     requires { 60 ≤ length out.old }
     ensures { out.new ≡ T.triples ++ drop 60 out.old }
 {
-    for k in 0..60 {
-        out[k] = TRIPLES[k];
-    }
+    copies::copy_front(&TRIPLES, out);
 }

@@ -1,51 +1,36 @@
-// Standard input for every program: all of it, or the word that it could not be read.
+// Standard input for every program: all of it, or the error that it could not be read for.
 #![tactic(auto)]
 
 ghost use Rattle.std.specs.Prelude.{◌-◌, ◌≤◌, ◌≡◌, length};
 ghost use Rattle.input.specs.Reading as R;
 
+use std::io;
 use std::io::Read;
 
-// What reading came to: so many bytes, or a failure, which is not the end of the input.
-#[derive(Clone, Copy)]
-pub enum Input {
-    Read(usize),
-    Failed,
-}
-
-// One call of the reader, into the buffer from the offset `done` on: how many bytes it moved, or -1 where it failed.
-fn read_from<S: Read>(from: &mut S, buf: &mut [u8], done: usize) -> isize
+// One call of the reader, into the buffer from the offset `done` on: how many bytes it moved.
+fn read_from<S: Read>(from: &mut S, buf: &mut [u8], done: usize) -> io::Result<usize>
     requires { done ≤ length buf.old }
     ensures { R.Moved (length buf.old - done) result }
 {
-    match from.read(&mut buf[done..]) {
-        Ok(n) => n as isize,
-        Err(_) => -1,
-    }
+    from.read(&mut buf[done..])
 }
 
 // How many bytes a call put: none where it failed.
-fn count(got: isize) -> usize
+fn count(got: io::Result<usize>) -> usize
     ensures { result ≡ R.count_of got }
 {
-    if got < 0 {
-        return 0;
-    }
-    got as usize
+    got.unwrap_or(0)
 }
 
 // What reading came to, by the answer of the call that put nothing after `done` bytes: a failure is not the end.
-fn ended(got: isize, done: usize) -> Input
+fn ended(got: io::Result<usize>, done: usize) -> io::Result<usize>
     ensures { result ≡ R.ended_of got done }
 {
-    if got < 0 {
-        return Input::Failed;
-    }
-    Input::Read(done)
+    got.and(Ok(done))
 }
 
 // Reads until the buffer is full, the input ends or a read fails. No contract can say which bytes the system put there.
-pub fn read<S: Read>(from: &mut S, buf: &mut [u8]) -> Input
+pub fn read<S: Read>(from: &mut S, buf: &mut [u8]) -> io::Result<usize>
     ensures { R.Within result buf.new }
 {
     let mut done = 0;
@@ -57,15 +42,12 @@ pub fn read<S: Read>(from: &mut S, buf: &mut [u8]) -> Input
         }
         done += n;
     }
-    Input::Read(done)
+    Ok(done)
 }
 
 // Whether all of a part of the input came, whose length is known.
-pub fn is_whole(got: Input, size: usize) -> bool
+pub fn is_whole(got: io::Result<usize>, size: usize) -> bool
     ensures { result ≡ R.is_whole got size }
 {
-    match got {
-        Input::Read(n) => n == size,
-        Input::Failed => false,
-    }
+    got.is_ok_and(|n| n == size)
 }

@@ -1,2 +1,3 @@
+pub mod Refusals
 pub mod Judge
 pub mod Why

@@ -1,9 +1,8 @@
-// The one judge of what is handed in: positions and vectors, alone and in lists. A refusal is a number here, 0 for none;
-// the public functions make their answers of it.
+// The one judge of what is handed in: positions and vectors, alone and in lists; and what anything handed in is refused for.
 #![tactic(auto)]
 
 ghost use Rattle.std.specs.Prelude.{◌≡◌, ◌*◌, ◌≤◌, length};
-ghost use Rattle.laws.specs.Loop as Loop;
+ghost use Rattle.judge.specs.Refusals.{number, number_of};
 ghost use Rattle.judge.specs.Judge.{finite_vec, fault_of, vector_fault, first_refused, positions_fault, vectors_fault};
 
 use vec3::Vec3;
@@ -13,11 +12,39 @@ const LOW: f64 = 0.9999999999990905052982270717620849609375;
 
 const HIGH: f64 = 1.0000000000009094947017729282379150390625;
 
-// The first of two refusals.
-pub fn first(a: u8, b: u8) -> u8
-    ensures { result ≡ Loop.first a b }
-{
-    if a == 0 { b } else { a }
+// What is handed in is refused for, by the rows of docs/REFUSALS.md.
+#[derive(Clone, Copy, Debug, PartialEq, Eq)]
+pub enum Refusal {
+    Shape,
+    TooMany,
+    NotFinite,
+    OffRange,
+    NoRoom,
+    UnknownClass,
+    EachInside,
+    NoEar,
+    NoRing,
+    TwoModes,
+}
+
+impl Refusal {
+    // The number that a caller is told.
+    pub fn number(self) -> u8
+        ensures { result ≡ number self }
+    {
+        match self {
+            Refusal::Shape => 1,
+            Refusal::TooMany => 2,
+            Refusal::NotFinite => 3,
+            Refusal::OffRange => 4,
+            Refusal::NoRoom => 5,
+            Refusal::UnknownClass => 6,
+            Refusal::EachInside => 7,
+            Refusal::NoEar => 8,
+            Refusal::NoRing => 9,
+            Refusal::TwoModes => 11,
+        }
+    }
 }
 
 // Whether no component is NaN or infinite.
@@ -28,28 +55,40 @@ pub fn is_finite(v: Vec3) -> bool
 }
 
 // What a position that is not in range is refused for. It is rare, and so a function of its own.
-fn off_range(p: Vec3) -> u8
-    ensures { result ≡ vector_fault p (4) }
+#[tactic(auto, unfolding(crate::specs::Judge::vector_fault))]
+fn off_range(p: Vec3) -> Refusal
+    ensures { number result ≡ vector_fault p (4) }
 {
-    if is_finite(p) { 4 } else { 3 }
+    if is_finite(p) {
+        Refusal::OffRange
+    } else {
+        Refusal::NotFinite
+    }
 }
 
 // The refusal that a position gives. A squared norm in range has finite components alone, so one test settles most positions.
-pub fn fault(p: Vec3) -> u8
-    ensures { result ≡ fault_of p }
+#[tactic(auto, using(crate::proofs::Ranges::within_fault, crate::proofs::Ranges::off_fault))]
+pub fn fault(p: Vec3) -> Result<(), Refusal>
+    ensures { number_of result ≡ fault_of p }
 {
     let d = p.squared_norm();
     if (LOW <= d) & (d <= HIGH) {
-        return 0;
+        Ok(())
+    } else {
+        Err(off_range(p))
     }
-    off_range(p)
 }
 
 // The refusal that a normal, a cap's centre or an inside gives.
-pub fn vector_fault(v: Vec3) -> u8
-    ensures { result ≡ vector_fault v 0 }
+#[tactic(auto, unfolding(crate::specs::Judge::vector_fault))]
+pub fn vector_fault(v: Vec3) -> Result<(), Refusal>
+    ensures { number_of result ≡ vector_fault v 0 }
 {
-    if is_finite(v) { 0 } else { 3 }
+    if is_finite(v) {
+        Ok(())
+    } else {
+        Err(Refusal::NotFinite)
+    }
 }
 
 // The index of the first of n positions that is refused, n where none is.
@@ -59,7 +98,7 @@ pub fn first_refused(ps: &[f64], n: usize) -> usize
     ensures upper_bound { result ≤ n }
 {
     for i in 0..n {
-        if fault(vec3::at(ps, i)) != 0 {
+        if fault(vec3::at(ps, i)).is_err() {
             return i;
         }
     }
@@ -67,27 +106,25 @@ pub fn first_refused(ps: &[f64], n: usize) -> usize
 }
 
 // The refusal of that one, 0 where there is none.
-pub fn positions_fault(ps: &[f64], n: usize) -> u8
+pub fn positions_fault(ps: &[f64], n: usize) -> Result<(), Refusal>
     requires { 3 * n ≤ length ps.now }
-    ensures { result ≡ positions_fault ps.now n }
+    ensures { number_of result ≡ positions_fault ps.now n }
 {
     let i = first_refused(ps, n);
-    if n <= i {
-        return 0;
+    if i < n {
+        fault(vec3::at(ps, i))
+    } else {
+        Ok(())
     }
-    fault(vec3::at(ps, i))
 }
 
 // The first refusal that one of n normals gives.
-pub fn vectors_fault(ns: &[f64], n: usize) -> u8
+pub fn vectors_fault(ns: &[f64], n: usize) -> Result<(), Refusal>
     requires { 3 * n ≤ length ns.now }
-    ensures { result ≡ vectors_fault ns.now n }
+    ensures { number_of result ≡ vectors_fault ns.now n }
 {
     for i in 0..n {
-        let f = vector_fault(vec3::at(ns, i));
-        if f != 0 {
-            return f;
-        }
+        vector_fault(vec3::at(ns, i))?;
     }
-    0
+    Ok(())
 }

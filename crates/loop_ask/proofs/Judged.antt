@@ -1,6 +1,6 @@
--- The refusal, or what there is to tell; and what the inner functions need of a loop and a query without a refusal. Assumes nothing.
-use Prim.Native.Nat.{ℕ, zero, suc, ◌*◌, ◌≤◌}
-use mathlib.Core.Path.{◌≡◌, refl, sym, ◌∙◌}
+-- What the inner functions need of a loop and a query, or of two loops, without a refusal. Assumes nothing.
+use Prim.Native.Nat.{ℕ, ◌*◌, ◌≤◌}
+use mathlib.Core.Path.{◌≡◌, sym}
 use mathlib.Core.List.{List}
 use native.Mathlib.Omega.{arith}
 use lib.ListN.{length}
@@ -10,38 +10,38 @@ use Rattle.vec3.specs.declared.Vec3.{Vec3}
 use Rattle.loop_header.specs.declared.Header.{Header}
 use Rattle.loop_header.specs.Loops.{loop_fault}
 use Rattle.loop_header.proofs.Sounds.{Sound, sound, sound_most, sound_positions, sound_classes}
-use Rattle.loop_ask.specs.Answers.{Told, refused, judged}
 use Rattle.loop_ask.specs.Questions.{query_fault, pair_fault, Comparable}
 
-pub was_refused : (k : ℕ) (t : Told) → (k ≡ 0 → ⊥) → refused k ≡ judged k t
-was_refused zero t h = absurd (h refl)
-was_refused (suc k) t h = refl
+module _ (h : Header) (ps ns : List Float) (cs : List ℕ) where
+  pub loop_most : 0 ≡ loop_fault h ps ns cs → h.count ≤ 512
+  loop_most e = sound_most (sound h ps ns cs (sym e))
 
-pub was_fine : {k : ℕ} (t : Told) → k ≡ 0 → t ≡ judged k t
-was_fine t e = rw e
+  pub loop_positions : 0 ≡ loop_fault h ps ns cs → 3 * h.count ≤ length ps
+  loop_positions e = omega (arith, sound_positions (sound h ps ns cs (sym e)))
 
--- sizes of a loop that is not refused
-pub record Sizes (h : Header) (ps ns : List Float) : Type 0 where
-  pub most : h.count ≤ 512
-  pub positions : 3 * h.count ≤ length ps
-  pub normals : 3 * h.count ≤ length ns
+  pub loop_normals : 0 ≡ loop_fault h ps ns cs → 3 * h.count ≤ length ns
+  loop_normals e = let s = sound h ps ns cs (sym e) in omega (arith, s.normals)
 
-pub sizes : {h : Header} {ps ns : List Float} {cs : List ℕ} → Sound h ps ns cs → Sizes h ps ns
-sizes s = record { most = sound_most s; positions = omega (arith, sound_positions s); normals = omega (arith, s.normals) }
+  module _ (p : Vec3) (e : 0 ≡ query_fault h ps ns cs p) where
+    loop_of_query : 0 ≡ loop_fault h ps ns cs
+    unfolding query_fault
+    loop_of_query = sym (first_zero_lem _ _ (sym e)).0
 
-pub loop_sizes : (h : Header) (ps ns : List Float) (cs : List ℕ) {k : ℕ} → k ≡ loop_fault h ps ns cs → k ≡ 0 → Sizes h ps ns
-loop_sizes h ps ns cs e z = sizes (sound h ps ns cs (sym e ∙ z))
+    pub query_most : h.count ≤ 512
+    query_most = loop_most loop_of_query
 
-pub query_sizes : (h : Header) (ps ns : List Float) (cs : List ℕ) (p : Vec3) {k : ℕ} → k ≡ query_fault h ps ns cs p → k ≡ 0 → Sizes h ps ns
-unfolding query_fault
-query_sizes h ps ns cs p e z = sizes (sound h ps ns cs (first_zero_lem _ _ (sym e ∙ z)).0)
+    pub query_positions : 3 * h.count ≤ length ps
+    query_positions = loop_positions loop_of_query
+
+    pub query_normals : 3 * h.count ≤ length ns
+    query_normals = loop_normals loop_of_query
 
 -- two loops, neither of which is refused
-module _ (h : Header) (ps ns : List Float) (cs : List ℕ) (o : Header) (qs ms : List Float) (ds : List ℕ) {k : ℕ} (e : k ≡ pair_fault h ps ns cs o qs ms ds) (z : k ≡ 0) where
+module _ (h : Header) (ps ns : List Float) (cs : List ℕ) (o : Header) (qs ms : List Float) (ds : List ℕ) (e : 0 ≡ pair_fault h ps ns cs o qs ms ds) where
   pub both_sound : Sound h ps ns cs × Sound o qs ms ds
   unfolding pair_fault
   both_sound =
-      let a = first_zero_lem _ _ (sym e ∙ z) in
+      let a = first_zero_lem _ _ (sym e) in
       (sound h ps ns cs a.0, sound o qs ms ds a.1)
 
   pub comparable : Comparable h ps cs o qs ds

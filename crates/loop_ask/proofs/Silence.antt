@@ -9,12 +9,10 @@ use native.Mathlib.Omega.{arith}
 use lib.Dec.{eqb, ltb}
 use lib.Ieee.{Float}
 use borrow.Author.Tests.{ltb-true, ltb-false, leb-true, eqb-true, eqb-false, ne_eqb}
-use Rattle.std.specs.Prelude.{if◌then◌else◌}
+use Rattle.std.specs.Prelude.{Option, None, Some, if◌then◌else◌}
 use Rattle.laws.proofs.Firsts.{first_zero_lem}
 use Rattle.vec3.specs.declared.Vec3.{Vec3}
 use Rattle.vec3.specs.Vec.{cleared}
-use Rattle.vec3.specs.declared.Insides.{Insides}
-use Rattle.vec3.specs.declared.Insides.TheVariants.{Absent, Two}
 use Rattle.loop_header.specs.declared.State.{State}
 use Rattle.loop_header.specs.declared.State.TheVariants.{Empty, Full, Ring}
 use Rattle.loop_header.specs.declared.Header.{Header}
@@ -44,10 +42,10 @@ by_count h false false x Ring e l f c =
     let most : h.count ≤ 3 = ltb-false 3 h.count l in
     absurd (eqb-false h.count 3 e (omega arith))
 
-by_insides : (i : Insides) (h : Header) (ps ns : List Float) (p : Vec3) → h.insides ≡ i → count_fits h.state h.count ≡ true → Either h (answer (place_by i h ps ns p))
+by_insides : (i : Option (Vec3 × Vec3)) (h : Header) (ps ns : List Float) (p : Vec3) → h.insides ≡ i → count_fits h.state h.count ≡ true → Either h (answer (place_by i h ps ns p))
 unfolding place_without
-by_insides Absent h ps ns p e f = by_count h (eqb h.count 3) (ltb 3 h.count) (in_triangle ps ns p) h.state refl refl refl f
-by_insides (Two a b) h ps ns p e f = speaks (with_insides a b e)
+by_insides None h ps ns p e f = by_count h (eqb h.count 3) (ltb 3 h.count) (in_triangle ps ns p) h.state refl refl refl f
+by_insides (Some (a, b)) h ps ns p e f = speaks (with_insides a b e)
 
 by_refusal : (k : ℕ) {h : Header} {t : Told} → (k ≡ 0 → Either h t) → Either h (judged k t)
 by_refusal zero f = f refl
@@ -104,9 +102,9 @@ pub code_mute : (h : Header) (ps ns : List Float) (p : Vec3) → 2 ≤ place_of 
 unfolding place_without
 code_mute h ps ns p e = go h.insides e
   where
-    go : (i : Insides) → 2 ≤ place_by i h ps ns p → (ltb 3 h.count && is_absent i) ≡ true
-    go Absent e = rw (muted (eqb h.count 3) (ltb 3 h.count) (in_triangle ps ns p) h.state e)
-    go (Two a b) e = absurd (omega (arith, inside_small (inside_with h a b ps ns p)))
+    go : (i : Option (Vec3 × Vec3)) → 2 ≤ place_by i h ps ns p → (ltb 3 h.count && is_absent i) ≡ true
+    go None e = rw (muted (eqb h.count 3) (ltb 3 h.count) (in_triangle ps ns p) h.state e)
+    go (Some (a, b)) e = absurd (omega (arith, inside_small (inside_with h a b ps ns p)))
 
 above : (n : ℕ) → 3 < n → n ≡ 3 → ⊥
 above n l e = omega arith
@@ -115,9 +113,9 @@ pub mute_code : (h : Header) (ps ns : List Float) (p : Vec3) → mute h ≡ true
 unfolding place_without
 mute_code h ps ns p e = go h.insides e
   where
-    go : (i : Insides) → (ltb 3 h.count && is_absent i) ≡ true → place_by i h ps ns p ≡ 2
-    go Absent e = let m = (both_true (ltb 3 h.count) true e).0 in rw (ne_eqb h.count 3 (above h.count (ltb-true 3 h.count m)), m)
-    go (Two a b) e = absurd (false≢true (both_true (ltb 3 h.count) false e).1)
+    go : (i : Option (Vec3 × Vec3)) → (ltb 3 h.count && is_absent i) ≡ true → place_by i h ps ns p ≡ 2
+    go None e = let m = (both_true (ltb 3 h.count) true e).0 in rw (ne_eqb h.count 3 (above h.count (ltb-true 3 h.count m)), m)
+    go (Some (a, b)) e = absurd (false≢true (both_true (ltb 3 h.count) false e).1)
 
 told_mute : (k n : ℕ) → judged k (answer n) ≡ answer 2 → (k ≡ 0) × (n ≡ 2)
 unfolding number

@@ -1,12 +1,14 @@
 -- One outcome of each call: over each question's own postcondition, so that an `ensures` that says less breaks this. Assumes nothing.
 use Prim.Native.Nat.{zero, suc}
-use mathlib.Core.Path.{◌≡◌, refl, sym, ◌∙◌}
+use mathlib.Core.Path.{◌≡◌, refl, sym, ap, ◌∙◌}
+use mathlib.Core.Bool.{Bool, true, false}
+use Rattle.std.specs.Prelude.{Result, Ok, Err}
 use Rattle.outcomes.specs.Outcomes.{One, OneToOne}
 use Rattle.outcomes.proofs.Outcomes.{by_back}
-use Rattle.loop_ask.specs.declared.Placed.{Placed}
-use Rattle.loop_ask.specs.declared.Placed.TheVariants as Placed
-use Rattle.loop_ask.specs.declared.Answered.{Answered}
-use Rattle.loop_ask.specs.declared.Answered.TheVariants as Answered
+use Rattle.judge.specs.declared.Refusal.{Refusal}
+use Rattle.judge.proofs.Numbers.{named, named_number}
+use Rattle.loop_ask.specs.declared.Place.{Place}
+use Rattle.loop_ask.specs.declared.Place.TheVariants.{Outside, Inside, Mute}
 use Rattle.loop_ask.specs.Answers.{Told, refused, answer, told_placed, told_answered}
 use Rattle.loop_ask.proofs.contains_position as Place
 use Rattle.loop_ask.proofs.has_vertex as Vertex
@@ -16,29 +18,29 @@ use Rattle.loop_ask.proofs.is_simple as Simple
 use Rattle.loop_ask.proofs.is_equivalent as Equivalent
 
 -- ---- from the number back to the answer
-back_placed : Told → Placed
-back_placed (refused k) = Placed.Refused k
-back_placed (answer zero) = Placed.Outside
-back_placed (answer (suc zero)) = Placed.Inside
-back_placed (answer (suc (suc n))) = Placed.Mute
+back_placed : Told → Result Place Refusal
+back_placed (refused k) = Err (named k)
+back_placed (answer zero) = Ok Outside
+back_placed (answer (suc zero)) = Ok Inside
+back_placed (answer (suc (suc n))) = Ok Mute
 
-placed_back : (x : Placed) → back_placed (told_placed x) ≡ x
+placed_back : (x : Result Place Refusal) → back_placed (told_placed x) ≡ x
 unfolding back_placed
-placed_back (Placed.Refused k) = refl
-placed_back Placed.Outside = refl
-placed_back Placed.Inside = refl
-placed_back Placed.Mute = refl
+placed_back (Err r) = ap Err (named_number r)
+placed_back (Ok Outside) = refl
+placed_back (Ok Inside) = refl
+placed_back (Ok Mute) = refl
 
-back_answered : Told → Answered
-back_answered (refused k) = Answered.Refused k
-back_answered (answer zero) = Answered.No
-back_answered (answer (suc n)) = Answered.Yes
+back_answered : Told → Result Bool Refusal
+back_answered (refused k) = Err (named k)
+back_answered (answer zero) = Ok false
+back_answered (answer (suc n)) = Ok true
 
-answered_back : (x : Answered) → back_answered (told_answered x) ≡ x
+answered_back : (x : Result Bool Refusal) → back_answered (told_answered x) ≡ x
 unfolding back_answered
-answered_back (Answered.Refused k) = refl
-answered_back Answered.No = refl
-answered_back Answered.Yes = refl
+answered_back (Err r) = ap Err (named_number r)
+answered_back (Ok false) = refl
+answered_back (Ok true) = refl
 
 pub one_placed : OneToOne told_placed
 one_placed = by_back told_placed back_placed placed_back

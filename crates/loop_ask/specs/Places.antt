@@ -1,10 +1,8 @@
 -- SCOPE 21, 55: where a place lies, as a number: 0 outside, 1 inside, 2 mute. Definitions only.
-use Rattle.std.specs.Prelude.{ℕ, Bool, true, false, List, eqb, ltb, Float, if◌then◌else◌}
+use Rattle.std.specs.Prelude.{ℕ, Bool, true, false, List, Option, None, Some, eqb, ltb, Float, if◌then◌else◌}
 use Rattle.vec3.specs.declared.Vec3.{Vec3}
 use Rattle.vec3.specs.Vec.{cleared}
 use Rattle.cap.specs.declared.Cap.{Cap}
-use Rattle.vec3.specs.declared.Insides.{Insides}
-use Rattle.vec3.specs.declared.Insides.TheVariants.{Absent, Two}
 use Rattle.loop_header.specs.declared.State.{State}
 use Rattle.loop_header.specs.declared.State.TheVariants.{Empty, Full, Ring}
 use Rattle.loop_header.specs.declared.Header.{Header}
@@ -34,9 +32,9 @@ place_without h ps ns p =
 abbrev pub inside_with : Header → Vec3 → Vec3 → List Float → List Float → Vec3 → Bool
 inside_with h a b ps ns p = inside_by h.mode (cleared_cap h.cap) (cleared a) (cleared b) ps ns h.count p
 
-abbrev pub place_by : Insides → Header → List Float → List Float → Vec3 → ℕ
-place_by Absent h ps ns p = place_without h ps ns p
-place_by (Two a b) h ps ns p = inside_code (inside_with h a b ps ns p)
+abbrev pub place_by : Option (Vec3 × Vec3) → Header → List Float → List Float → Vec3 → ℕ
+place_by None h ps ns p = place_without h ps ns p
+place_by (Some (a, b)) h ps ns p = inside_code (inside_with h a b ps ns p)
 
 abbrev pub place_of : Header → List Float → List Float → Vec3 → ℕ
 place_of h ps ns p = place_by h.insides h ps ns p

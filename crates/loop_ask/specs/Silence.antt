@@ -1,9 +1,8 @@
 -- SCOPE 15, 21, 55: silence is not empty air. What an answer of outside says of the loop, and when the answer is mute: of every header, whatever its mode and
 -- its cap are. Proved in proofs/Silence.antt. Definitions only.
-use Rattle.std.specs.Prelude.{ℕ, ◌≡◌, true, List, Float}
+use Rattle.std.specs.Prelude.{ℕ, ◌≡◌, true, List, Some, Float}
 use Rattle.vec3.specs.declared.Vec3.{Vec3}
 use Rattle.vec3.specs.Vec.{cleared}
-use Rattle.vec3.specs.declared.Insides.TheVariants.{Two}
 use Rattle.loop_header.specs.declared.State.TheVariants.{Empty}
 use Rattle.loop_header.specs.declared.Header.{Header}
 use Rattle.loop_header.specs.Loops.{mute}
@@ -14,7 +13,7 @@ use Rattle.loop_ask.specs.Questions.{query_fault, place_answer}
 pub data Speaks (h : Header) : Type 0 where
   empty : h.state ≡ Empty → Speaks h
   three : h.count ≡ 3 → Speaks h
-  with_insides : (a b : Vec3) → h.insides ≡ Two a b → Speaks h
+  with_insides : (a b : Vec3) → h.insides ≡ Some (a, b) → Speaks h
 
 -- what any other answers
 pub data Other : Told → Type 0 where

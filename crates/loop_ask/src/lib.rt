@@ -3,27 +3,22 @@
 #![tactic(auto)]
 
 ghost use Rattle.std.specs.Prelude.{◌≡◌, ◌*◌, ◌≤◌, length};
+ghost use Rattle.judge.specs.Refusals.{number_of};
 ghost use Rattle.loop_ask.specs.Answers as An;
 ghost use Rattle.loop_ask.specs.Places as P;
 ghost use Rattle.loop_ask.specs.Questions as Q;
 
 use cap::Cap;
+use judge::Refusal;
 use loop_header::{Header, State};
-use vec3::{Insides, Vec3};
+use vec3::Vec3;
 
-#[derive(Clone, Copy)]
-pub enum Placed {
-    Refused(u8),
+// Where a position lies. A mute loop has no insides to tell it by.
+#[derive(Clone, Copy, Debug, PartialEq, Eq)]
+pub enum Place {
     Outside,
     Inside,
     Mute,
-}
-
-#[derive(Clone, Copy)]
-pub enum Answered {
-    Refused(u8),
-    No,
-    Yes,
 }
 
 // A cap as it is read: its centre free of -0.0.
@@ -38,38 +33,33 @@ pub fn cleared_cap(c: Cap) -> Cap
     }
 }
 
-fn tell_place(inside: bool) -> Placed
-    ensures { An.told_placed result ≡ An.answer (P.inside_code inside) }
+fn inside_or_outside(inside: bool) -> Place
+    ensures { An.place_code result ≡ P.inside_code inside }
 {
     if inside {
-        Placed::Inside
+        Place::Inside
     } else {
-        Placed::Outside
+        Place::Outside
     }
-}
-
-pub fn tell(yes: bool) -> Answered
-    ensures { An.told_answered result ≡ An.bool_told yes }
-{
-    if yes { Answered::Yes } else { Answered::No }
 }
 
 // Without insides: three corners by their sides, more are mute, and none lie in the full loop alone.
-fn place_without(h: Header, positions: &[f64], normals: &[f64], p: Vec3) -> Placed
+#[tactic(auto, unfolding(crate::specs::Places::place_without))]
+fn place_without(h: Header, positions: &[f64], normals: &[f64], p: Vec3) -> Place
     requires { (3 * h.count ≤ length positions.now) × (3 * h.count ≤ length normals.now) }
-    ensures { An.told_placed result ≡ An.answer (P.place_without h positions.now normals.now p) }
+    ensures { An.place_code result ≡ P.place_without h positions.now normals.now p }
 {
     if h.count == 3 {
-        return tell_place(ring_place::in_triangle(positions, normals, p));
+        return inside_or_outside(ring_place::in_triangle(positions, normals, p));
     }
     if h.count > 3 {
-        return Placed::Mute;
+        return Place::Mute;
     }
     let state = h.state;
     match state {
-        State::Empty => Placed::Outside,
-        State::Full => Placed::Inside,
-        State::Ring => Placed::Outside,
+        State::Empty => Place::Outside,
+        State::Full => Place::Inside,
+        State::Ring => Place::Outside,
     }
 }
 
@@ -93,105 +83,110 @@ fn inside_with(h: Header, a: Vec3, b: Vec3, positions: &[f64], normals: &[f64], 
 }
 
 // The place of a position against a loop that was judged.
-pub fn place(h: Header, positions: &[f64], normals: &[f64], p: Vec3) -> Placed
+pub fn locate(h: Header, positions: &[f64], normals: &[f64], p: Vec3) -> Place
     requires { (h.count ≤ 512) × (3 * h.count ≤ length positions.now) × (3 * h.count ≤ length normals.now) }
-    ensures { An.told_placed result ≡ An.answer (P.place_of h positions.now normals.now p) }
+    ensures { An.place_code result ≡ P.place_of h positions.now normals.now p }
 {
-    let insides = h.insides;
-    match insides {
-        Insides::Absent => place_without(h, positions, normals, p),
-        Insides::Two(a, b) => tell_place(inside_with(h, a, b, positions, normals, p)),
+    match h.insides {
+        None => place_without(h, positions, normals, p),
+        Some((a, b)) => inside_or_outside(inside_with(h, a, b, positions, normals, p)),
     }
 }
 
 // The loop's refusals, and then the query's.
-pub fn query_fault(h: Header, positions: &[f64], normals: &[f64], classes: &[u8], p: Vec3) -> u8
-    ensures { result ≡ Q.query_fault h positions.now normals.now classes.now p }
+#[tactic(auto, unfolding(crate::specs::Questions::query_fault))]
+pub fn query_fault(
+    h: Header,
+    positions: &[f64],
+    normals: &[f64],
+    classes: &[u8],
+    p: Vec3,
+) -> Result<(), Refusal>
+    ensures { number_of result ≡ Q.query_fault h positions.now normals.now classes.now p }
 {
-    judge::first(
-        loop_header::loop_fault(h, positions, normals, classes),
-        judge::fault(p),
-    )
+    loop_header::loop_fault(h, positions, normals, classes)?;
+    judge::fault(p)
 }
 
 // Whether a position lies in a loop's interior.
+#[tactic(auto, using(crate::proofs::Judged::query_most, crate::proofs::Judged::query_positions, crate::proofs::Judged::query_normals), unfolding(crate::specs::Questions::place_answer))]
 pub fn contains_position(
     h: Header,
     positions: &[f64],
     normals: &[f64],
     classes: &[u8],
     p: Vec3,
-) -> Placed
+) -> Result<Place, Refusal>
     ensures { An.told_placed result ≡ Q.place_answer h positions.now normals.now classes.now p }
 {
     let q = p.clear();
-    let f = query_fault(h, positions, normals, classes, q);
-    if f != 0 {
-        return Placed::Refused(f);
-    }
-    place(h, positions, normals, q)
+    query_fault(h, positions, normals, classes, q)?;
+    Ok(locate(h, positions, normals, q))
 }
 
 // Whether a position is a corner of a loop.
+#[tactic(auto, using(crate::proofs::Judged::query_most, crate::proofs::Judged::query_positions, crate::proofs::Judged::query_normals), unfolding(crate::specs::Questions::vertex_answer))]
 pub fn has_vertex(
     h: Header,
     positions: &[f64],
     normals: &[f64],
     classes: &[u8],
     p: Vec3,
-) -> Answered
+) -> Result<bool, Refusal>
     ensures { An.told_answered result ≡ Q.vertex_answer h positions.now normals.now classes.now p }
 {
     let q = p.clear();
-    let f = query_fault(h, positions, normals, classes, q);
-    if f != 0 {
-        return Answered::Refused(f);
-    }
-    tell(ring_edges::has_vertex(positions, h.count, q))
+    query_fault(h, positions, normals, classes, q)?;
+    Ok(ring_edges::has_vertex(positions, h.count, q))
 }
 
 // Whether a position lies on an edge of a loop.
+#[tactic(auto, using(crate::proofs::Judged::query_most, crate::proofs::Judged::query_positions, crate::proofs::Judged::query_normals), unfolding(crate::specs::Questions::on_edge_answer))]
 pub fn any_edge_contains_position(
     h: Header,
     positions: &[f64],
     normals: &[f64],
     classes: &[u8],
     p: Vec3,
-) -> Answered
+) -> Result<bool, Refusal>
     ensures { An.told_answered result ≡ Q.on_edge_answer h positions.now normals.now classes.now p }
 {
     let q = p.clear();
-    let f = query_fault(h, positions, normals, classes, q);
-    if f != 0 {
-        return Answered::Refused(f);
-    }
-    tell(ring_edges::any_edge_contains_position(positions, normals, h.count, q))
+    query_fault(h, positions, normals, classes, q)?;
+    Ok(ring_edges::any_edge_contains_position(positions, normals, h.count, q))
 }
 
 // Whether a loop is convex.
-pub fn is_convex(h: Header, positions: &[f64], normals: &[f64], classes: &[u8]) -> Answered
+#[tactic(auto, using(crate::proofs::Judged::loop_most, crate::proofs::Judged::loop_positions, crate::proofs::Judged::loop_normals), unfolding(crate::specs::Questions::convex_answer))]
+pub fn is_convex(
+    h: Header,
+    positions: &[f64],
+    normals: &[f64],
+    classes: &[u8],
+) -> Result<bool, Refusal>
     ensures { An.told_answered result ≡ Q.convex_answer h positions.now normals.now classes.now }
 {
-    let f = loop_header::loop_fault(h, positions, normals, classes);
-    if f != 0 {
-        return Answered::Refused(f);
-    }
-    tell(ring_shape::is_convex(positions, h.count))
+    loop_header::loop_fault(h, positions, normals, classes)?;
+    Ok(ring_shape::is_convex(positions, h.count))
 }
 
 // Whether a loop is simple.
-pub fn is_simple(h: Header, positions: &[f64], normals: &[f64], classes: &[u8]) -> Answered
+#[tactic(auto, using(crate::proofs::Judged::loop_most, crate::proofs::Judged::loop_positions, crate::proofs::Judged::loop_normals), unfolding(crate::specs::Questions::simple_answer))]
+pub fn is_simple(
+    h: Header,
+    positions: &[f64],
+    normals: &[f64],
+    classes: &[u8],
+) -> Result<bool, Refusal>
     ensures { An.told_answered result ≡ Q.simple_answer h positions.now normals.now classes.now }
 {
-    let f = loop_header::loop_fault(h, positions, normals, classes);
-    if f != 0 {
-        return Answered::Refused(f);
-    }
+    loop_header::loop_fault(h, positions, normals, classes)?;
     let mode = h.mode;
-    tell(ring_shape::is_simple(mode, positions, normals, h.count))
+    Ok(ring_shape::is_simple(mode, positions, normals, h.count))
 }
 
 // The refusals of a first loop, and then those of a second.
+#[tactic(auto, unfolding(crate::specs::Questions::pair_fault))]
 pub fn pair_fault(
     h: Header,
     positions: &[f64],
@@ -201,13 +196,11 @@ pub fn pair_fault(
     others: &[f64],
     theirs: &[f64],
     codes: &[u8],
-) -> u8
-    ensures { result ≡ Q.pair_fault h positions.now normals.now classes.now o others.now theirs.now codes.now }
+) -> Result<(), Refusal>
+    ensures { number_of result ≡ Q.pair_fault h positions.now normals.now classes.now o others.now theirs.now codes.now }
 {
-    judge::first(
-        loop_header::loop_fault(h, positions, normals, classes),
-        loop_header::loop_fault(o, others, theirs, codes),
-    )
+    loop_header::loop_fault(h, positions, normals, classes)?;
+    loop_header::loop_fault(o, others, theirs, codes)
 }
 
 pub fn is_full(state: State) -> bool
@@ -221,6 +214,7 @@ pub fn is_full(state: State) -> bool
 }
 
 // Whether two loops that were judged have the same corners and classes, from any corner on and in either direction.
+#[tactic(auto, unfolding(crate::specs::Questions::equivalent_loops))]
 pub fn equivalent(
     h: Header,
     positions: &[f64],
@@ -244,6 +238,7 @@ pub fn equivalent(
 }
 
 // Whether two loops have the same corners, from any corner on and in either direction.
+#[tactic(auto, using(crate::proofs::Judged::comparable), unfolding(crate::specs::Questions::equivalent_answer))]
 pub fn is_equivalent(
     h: Header,
     positions: &[f64],
@@ -253,12 +248,9 @@ pub fn is_equivalent(
     others: &[f64],
     theirs: &[f64],
     codes: &[u8],
-) -> Answered
+) -> Result<bool, Refusal>
     ensures { An.told_answered result ≡ Q.equivalent_answer h positions.now normals.now classes.now o others.now theirs.now codes.now }
 {
-    let f = pair_fault(h, positions, normals, classes, o, others, theirs, codes);
-    if f != 0 {
-        return Answered::Refused(f);
-    }
-    tell(equivalent(h, positions, classes, o, others, codes))
+    pair_fault(h, positions, normals, classes, o, others, theirs, codes)?;
+    Ok(equivalent(h, positions, classes, o, others, codes))
 }

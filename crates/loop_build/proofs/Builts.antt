@@ -1,6 +1,6 @@
 -- What a built ring is: its count, state and slices agree, its class codes are at most 2 and its positions are fine, so that handed back it is not refused
 -- by cutting or the checker. Of lists of doubles, as every lent slice is. Assumes nothing.
-use Prim.Native.Nat.{ℕ, zero, ◌+◌, ◌*◌, ◌/◌, ◌≤◌, ◌<◌}
+use Prim.Native.Nat.{ℕ, ◌+◌, ◌*◌, ◌/◌, ◌≤◌, ◌<◌}
 use mathlib.Core.Path.{◌≡◌, refl, sym, ap, ◌∙◌}
 use mathlib.Core.Bool.{Bool, true, false}
 use mathlib.Core.List.{List, [], ◌∷◌}

@@ -1,29 +1,27 @@
 -- `out` by the refusal's number and the opened count. Assumes nothing.
-use Prim.Native.Nat.{ℕ, zero, suc, ◌*◌, ◌≤◌, ◌<◌}
-use mathlib.Core.Path.{◌≡◌, refl, sym, ap, ◌∙◌}
+use Prim.Native.Nat.{ℕ, ◌*◌, ◌≤◌, ◌<◌}
+use mathlib.Core.Path.{◌≡◌, sym, ap}
 use mathlib.Core.List.{List}
 use native.Mathlib.Omega.{arith}
 use lib.ListN.{length}
 use lib.Ieee.{Float}
 use borrow.Author.Tests.{lt-ltb, le-ltb}
+use Rattle.judge.specs.declared.Refusal.{Refusal}
+use Rattle.judge.specs.Refusals.{number}
 use Rattle.minor_arc.specs.declared.Mode.{Mode}
 use Rattle.loop_header.specs.declared.Header.{Header}
 use Rattle.loop_header.specs.Loops.{empty_header}
-use Rattle.loop_build.specs.Build.{refused, loop, opened_count, refusal, Lent, made, kept, outcome_of, outcome_by, build_outcome}
+use Rattle.loop_build.specs.Build.{refused, loop, opened_count, refusal, Lent, made, kept, outcome_of, build_outcome}
 use Rattle.loop_build.proofs.Rooms.{Listed, list_fine, room, fine}
 
-by_refused : (k : ℕ) (mode : Mode) (l ps ns : List Float) (cs : List ℕ) → (k ≡ 0 → ⊥) → kept (refused k) ps ns cs ≡ outcome_by k mode l ps ns cs
-by_refused zero mode l ps ns cs h = absurd (h refl)
-by_refused (suc k) mode l ps ns cs h = refl
-
 module _ (l ps ns : List Float) (cs : List ℕ) where
-  pub was_refused : (mode : Mode) {k : ℕ} → (k ≡ 0 → ⊥) → k ≡ refusal l ps ns cs → kept (refused k) ps ns cs ≡ build_outcome mode l ps ns cs
+  pub was_refused : (mode : Mode) (r : Refusal) → number r ≡ refusal l ps ns cs → kept (refused (number r)) ps ns cs ≡ build_outcome mode l ps ns cs
   unfolding build_outcome
-  was_refused mode {k} h e = rw (← e) (by_refused k mode l ps ns cs h)
+  was_refused mode r e = rw (← e)
 
-  module _ {k n : ℕ} (e : k ≡ refusal l ps ns cs) (z : k ≡ 0) (o : n ≡ opened_count l) where
+  module _ {n : ℕ} (z : 0 ≡ refusal l ps ns cs) (o : n ≡ opened_count l) where
     none : refusal l ps ns cs ≡ 0
-    none = sym e ∙ z
+    none = sym z
 
     pub listed : Listed l
     listed = list_fine l (fine l ps ns cs none).0
@@ -54,16 +52,3 @@ module _ (l ps ns : List Float) (cs : List ℕ) where
         → record { answer = loop h; positions = ps'; normals = ns'; classes = cs' } ≡ build_outcome mode l ps ns cs
     unfolding build_outcome
     looped mode g q = rw (none, ← o, le-ltb _ _ g) (ap outcome_of q)
-
--- the same with work arrays of the sizes asked
-pub lent_with : {l : List Float} {n a b p q r : ℕ} → Lent l n (3 * n) n p q r → a ≡ 3 * n → b ≡ n → Lent l n a b p q r
-lent_with t e f = record {
-  least = t.least;
-  most = t.most;
-  listed = t.listed;
-  edges_size = e;
-  codes_size = f;
-  positions_room = t.positions_room;
-  normals_room = t.normals_room;
-  classes_room = t.classes_room;
-}

@@ -1,6 +1,6 @@
 -- What no refusal tells of a list and of the room that is lent for its ring. Assumes nothing.
 use Prim.Native.Nat.{ℕ, ◌*◌, ◌/◌, ◌%◌, ◌≤◌}
-use mathlib.Core.Path.{◌≡◌, refl}
+use mathlib.Core.Path.{◌≡◌, refl, sym}
 use mathlib.Core.Bool.{Bool, true, false, ◌&&◌, ◌||◌}
 use mathlib.Core.List.{List}
 use native.Mathlib.Omega.{arith}
@@ -53,3 +53,7 @@ room n p q r e h =
 pub fine : (l ps ns : List Float) (cs : List ℕ) → refusal l ps ns cs ≡ 0 → (list_fault l ≡ 0) × (room_fault (opened_count l) (length ps) (length ns) (length cs) ≡ 0)
 unfolding refusal
 fine l ps ns cs e = first_zero_lem _ _ e
+
+-- of a list that is refused nothing: as its room is judged
+pub opened_small : (l : List Float) → 0 ≡ list_fault l → opened_count l ≤ 512
+opened_small l e = let r = list_fine l (sym e) in r.small

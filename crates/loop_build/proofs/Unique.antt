@@ -1,21 +1,23 @@
 -- One answer and one final state: over the postcondition of `build` itself, so that an `ensures` that says less breaks this. Assumes nothing.
 use mathlib.Core.Path.{◌≡◌, refl, sym, ap, ◌∙◌}
+use Rattle.std.specs.Prelude.{Result, Ok, Err}
 use Rattle.outcomes.specs.Outcomes.{One, OneToOne}
 use Rattle.outcomes.proofs.Outcomes.{by_back}
-use Rattle.loop_build.specs.declared.Built.{Built}
-use Rattle.loop_build.specs.declared.Built.TheVariants.{Refused, Loop}
+use Rattle.judge.specs.declared.Refusal.{Refusal}
+use Rattle.judge.proofs.Numbers.{named, named_number}
+use Rattle.loop_header.specs.declared.Header.{Header}
 use Rattle.loop_build.specs.Build.{Told, refused, loop, told, Outcome}
 use Rattle.loop_build.proofs.build as Building
 
 -- the answer by cases tells each answer from every other
-back : Told → Built
-back (refused k) = Refused k
-back (loop h) = Loop h
+back : Told → Result Header Refusal
+back (refused k) = Err (named k)
+back (loop h) = Ok h
 
-there_and_back : (x : Built) → back (told x) ≡ x
+there_and_back : (x : Result Header Refusal) → back (told x) ≡ x
 unfolding back
-there_and_back (Refused k) = refl
-there_and_back (Loop h) = refl
+there_and_back (Err r) = ap Err (named_number r)
+there_and_back (Ok h) = refl
 
 pub told_apart : OneToOne told
 told_apart = by_back told back there_and_back

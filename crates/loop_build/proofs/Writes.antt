@@ -7,15 +7,16 @@ use native.Mathlib.Omega.{arith}
 use lib.ListN.{length, take, drop}
 use lib.Seq.{take_at}
 use lib.Ieee.{Float}
+use Rattle.std.specs.Prelude.{Option}
 use Rattle.laws.proofs.Copies.{length_flat}
 use Rattle.angle.specs.declared.Angle.{Angle}
 use Rattle.angle.specs.Angles.{weak, clockwise}
+use Rattle.vec3.specs.declared.Vec3.{Vec3}
 use Rattle.cap.specs.declared.Cap.{Cap}
 use Rattle.cap.specs.Caps.{bounding_cap}
 use Rattle.ring_turns.specs.Turns.{turn_sum, edge_normals}
 use Rattle.ring_corners.specs.Corners.{corner_at, class_at, reversal, ring_of, normals_of, classes_of, all_both}
 use Rattle.vec3.proofs.Arrays.{size}
-use Rattle.vec3.specs.declared.Insides.{Insides}
 use Rattle.ring_cut.specs.Cut.{Ring}
 use Rattle.minor_arc.specs.declared.Mode.{Mode}
 use Rattle.loop_header.specs.declared.Header.{Header}
@@ -44,7 +45,7 @@ module _ {l : List Float} {n : ℕ} {reversed : Bool} {edges : List Float} {code
     most = omega (arith, codes_size, d.most);
   }
 
-  pub all_written : (ps ns : List Float) (cs : List ℕ) {i : Insides} {ps' ns' : List Float} {cs' : List ℕ}
+  pub all_written : (ps ns : List Float) (cs : List ℕ) {i : Option (Vec3 × Vec3)} {ps' ns' : List Float} {cs' : List ℕ}
       → i ≡ insides_for (take (3 * n) ps') codes → ps' ≡ ring_of l n reversed ++ drop (3 * n) ps → ns' ≡ normals_of l n reversed ++ drop (3 * n) ns
       → cs' ≡ codes ++ drop (length codes) cs → record { insides = i; positions = ps'; normals = ns'; classes = cs' } ≡ written l n reversed ps ns cs
   all_written ps ns cs e p q r = rw (e, front ps p, p, q, r, codes_size, d.prepared_codes)
@@ -82,7 +83,7 @@ module _ (l : List Float) (n : ℕ) {s : Angle} {edges : List Float} {codes : Li
     unfolding made
     full_made p t q r = rw (← codes_are, ← p, t, r, q, sum_is)
 
-    pub ring_made_lem : {b c w : Bool} {i : Insides} {ps' ns' : List Float} {cs' : List ℕ} {cap : Cap}
+    pub ring_made_lem : {b c w : Bool} {i : Option (Vec3 × Vec3)} {ps' ns' : List Float} {cs' : List ℕ} {cap : Cap}
         → b ≡ all_both codes → b ≡ false → c ≡ clockwise s → record { insides = i; positions = ps'; normals = ns'; classes = cs' } ≡ written l n (not c) ps ns cs
         → cap ≡ bounding_cap l n → w ≡ weak s
         → record { header = record { count = n; state = S.Ring; cap = cap; insides = i; reversed = not c; weak = w; mode = mode }; positions = ps'; normals = ns'; classes = cs' } ≡ made mode l n ps ns cs

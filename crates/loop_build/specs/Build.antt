@@ -1,23 +1,22 @@
 -- What building a loop answers, and what it leaves in the slices that it was lent (SCOPE 11 to 15, 54). Definitions only.
-use Rattle.std.specs.Prelude.{ℕ, zero, suc, ◌*◌, ◌/◌, ◌%◌, ◌≤◌, ◌<◌, ◌≡◌, Bool, true, false, ◌&&◌, ◌||◌, cond, List, ◌++◌, length, drop, get_or, T, ltb, leb, eqb, Float}
+use Rattle.std.specs.Prelude.{ℕ, zero, suc, ◌*◌, ◌/◌, ◌%◌, ◌≤◌, ◌<◌, ◌≡◌, Bool, true, false, ◌&&◌, ◌||◌, cond, List, Option, None, ◌++◌, length, drop, get_or, T, ltb, leb, eqb, Float, Result, Ok, Err}
 use Rattle.std.specs.Float.{nan, binary64}
 use Rattle.std.specs.Float.Ieee.{fits}
 use Rattle.laws.specs.Loop.{first}
 use Rattle.angle.specs.declared.Angle.{Angle}
 use Rattle.angle.specs.Angles.{weak}
+use Rattle.vec3.specs.declared.Vec3.{Vec3}
 use Rattle.cap.specs.Caps.{bounding_cap}
 use Rattle.minor_arc.specs.declared.Mode.{Mode}
 use Rattle.judge.specs.Judge.{positions_fault}
+use Rattle.judge.specs.declared.Refusal.{Refusal}
+use Rattle.judge.specs.Refusals.{number}
 use Rattle.ring_turns.specs.Turns.{edge_normals, turn_sum}
 use Rattle.ring_corners.specs.Corners.{opened, reversal, ring_of, normals_of, classes_of, all_both}
-use Rattle.vec3.specs.declared.Insides.{Insides}
-use Rattle.vec3.specs.declared.Insides.TheVariants.{Absent}
 use Rattle.ring_insides.specs.Insides.{insides_of}
 use Rattle.loop_header.specs.declared.Header.{Header}
 use Rattle.loop_header.specs.declared.State.TheVariants.{Ring}
 use Rattle.loop_header.specs.Loops.{empty_header, full_header}
-use Rattle.loop_build.specs.declared.Built.{Built}
-use Rattle.loop_build.specs.declared.Built.TheVariants.{Refused, Loop}
 
 -- SCOPE 1: each element is a double, as in every slice of floats that is lent
 abbrev pub Doubles : List Float → Type 0
@@ -50,8 +49,8 @@ abbrev pub prepared : List Float → ℕ → Prepared
 prepared l n = record { sum = turn_sum l n; edges = edge_normals l n; classes = classes_of l n (reversal l n) }
 
 -- SCOPE 18: three corners need no insides
-unfoldable pub insides_for : List Float → List ℕ → Insides
-insides_for ps cs = cond (ltb 3 (length cs)) (insides_of ps cs) Absent
+unfoldable pub insides_for : List Float → List ℕ → Option (Vec3 × Vec3)
+insides_for ps cs = cond (ltb 3 (length cs)) (insides_of ps cs) None
 
 -- a ring's header. SCOPE 14: the cap is that of the opened list in the order given, before any reversal. SCOPE 54: the mode is stored; SCOPE 55: nothing
 -- else of building goes by it
@@ -90,7 +89,7 @@ pub record Lent (l : List Float) (n edges codes positions normals classes : ℕ)
 
 -- a ring that is written: its insides, and the three slices. SCOPE 27: what lies past a result stays
 pub record Written : Type 0 where
-  pub insides : Insides
+  pub insides : Option (Vec3 × Vec3)
   pub positions : List Float
   pub normals : List Float
   pub classes : List ℕ
@@ -131,9 +130,9 @@ pub data Told : Type 0 where
   refused : ℕ → Told
   loop : Header → Told
 
-abbrev pub told : Built → Told
-told (Refused k) = refused k
-told (Loop h) = loop h
+abbrev pub told : Result Header Refusal → Told
+told (Err r) = refused (number r)
+told (Ok h) = loop h
 
 -- what a call comes to: its answer and the three slices
 pub record Outcome : Type 0 where

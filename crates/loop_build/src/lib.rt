@@ -2,51 +2,56 @@
 #![tactic(auto)]
 
 ghost use Rattle.std.specs.Prelude.{◌≡◌, ◌*◌, ◌≤◌, length};
+ghost use Rattle.judge.specs.Refusals.{number_of};
 ghost use Rattle.ring_cut.specs.Cut as C;
 ghost use Rattle.loop_build.specs.Build as B;
 
 use angle::Angle;
+use judge::Refusal;
 use loop_header::{Header, State};
 use minor_arc::Mode;
-use vec3::Insides;
-
-#[derive(Clone, Copy)]
-pub enum Built {
-    Refused(u8),
-    Loop(Header),
-}
+use vec3::Vec3;
 
 // Refusals 1 to 4 of a list.
-pub fn list_fault(list: &[f64]) -> u8
-    ensures { result ≡ B.list_fault list.now }
+#[tactic(auto, unfolding(crate::specs::Build::list_fault))]
+pub fn list_fault(list: &[f64]) -> Result<(), Refusal>
+    ensures { number_of result ≡ B.list_fault list.now }
 {
     if list.len() % 3 != 0 {
-        return 1;
+        return Err(Refusal::Shape);
     }
     let m = list.len() / 3;
     if m > 512 {
-        return 2;
+        return Err(Refusal::TooMany);
     }
     judge::positions_fault(list, m)
 }
 
 // Refusal 5, by the opened count.
-fn room_fault(n: usize, positions: &[f64], normals: &[f64], classes: &[u8]) -> u8
+#[tactic(auto, unfolding(crate::specs::Build::room_fault))]
+fn room_fault(n: usize, positions: &[f64], normals: &[f64], classes: &[u8]) -> Result<(), Refusal>
     requires { n ≤ 512 }
-    ensures { result ≡ B.room_fault n (length positions.now) (length normals.now) (length classes.now) }
+    ensures { number_of result ≡ B.room_fault n (length positions.now) (length normals.now) (length classes.now) }
 {
     let short = (positions.len() < 3 * n) | (normals.len() < 3 * n) | (classes.len() < n);
-    if (3 <= n) & short { 5 } else { 0 }
+    if (3 <= n) & short {
+        Err(Refusal::NoRoom)
+    } else {
+        Ok(())
+    }
 }
 
 // The refusal of a list with the room that is lent for its ring.
-fn refusal_of(list: &[f64], positions: &[f64], normals: &[f64], classes: &[u8]) -> u8
-    ensures { result ≡ B.refusal list.now positions.now normals.now classes.now }
+#[tactic(auto, using(crate::proofs::Rooms::opened_small), unfolding(crate::specs::Build::refusal))]
+fn refusal_of(
+    list: &[f64],
+    positions: &[f64],
+    normals: &[f64],
+    classes: &[u8],
+) -> Result<(), Refusal>
+    ensures { number_of result ≡ B.refusal list.now positions.now normals.now classes.now }
 {
-    let f = list_fault(list);
-    if f != 0 {
-        return f;
-    }
+    list_fault(list)?;
     room_fault(
         ring_corners::opened(list, list.len() / 3),
         positions,
@@ -67,14 +72,15 @@ fn prepare(list: &[f64], n: usize, edges: &mut [f64], codes: &mut [u8]) -> Angle
 }
 
 // The insides of a ring: a triangle has none.
-fn insides_of(positions: &[f64], classes: &[u8]) -> Insides
+#[tactic(auto, unfolding(crate::specs::Build::insides_for))]
+fn insides_of(positions: &[f64], classes: &[u8]) -> Option<(Vec3, Vec3)>
     requires { C.Ring positions.now classes.now }
     ensures { result ≡ B.insides_for positions.now classes.now }
 {
     if classes.len() > 3 {
         ring_insides::find_insides(positions, classes)
     } else {
-        Insides::Absent
+        None
     }
 }
 
@@ -88,14 +94,14 @@ fn write_ring(
     positions: &mut [f64],
     normals: &mut [f64],
     classes: &mut [u8],
-) -> Insides
+) -> Option<(Vec3, Vec3)>
     requires { B.Ready list.now n reversed edges.now codes.now (length positions.old) (length normals.old) (length classes.old) }
     ensures { record { insides = result; positions = positions.new; normals = normals.new; classes = classes.new }
         ≡ B.written list.now n reversed positions.old normals.old classes.old }
 {
     ring_corners::write_corners(list, n, reversed, positions);
     ring_corners::write_normals(list, edges, n, reversed, normals);
-    copies::copy_classes(codes, classes);
+    copies::copy_front(codes, classes);
     insides_of(&positions[..3 * n], codes)
 }
 
@@ -131,8 +137,8 @@ fn make(
     }
 }
 
-// `make` with work arrays for the largest ring: they hold what must not be written before FULL is ruled out.
-fn make_large(
+// `make` with work arrays for a ring of at most N corners: they hold what must not be written before FULL is ruled out.
+fn make_within<const N: usize, const FLOATS: usize>(
     mode: Mode,
     list: &[f64],
     n: usize,
@@ -140,41 +146,13 @@ fn make_large(
     normals: &mut [f64],
     classes: &mut [u8],
 ) -> Header
-    requires { B.Lent list.now n (3 * n) n (length positions.old) (length normals.old) (length classes.old) }
+    requires { B.Lent list.now n (3 * n) n (length positions.old) (length normals.old) (length classes.old) × (n ≤ N) × (N ≤ 512) × (FLOATS ≡ 3 * N) }
     ensures { record { header = result; positions = positions.new; normals = normals.new; classes = classes.new }
         ≡ B.made mode list.now n positions.old normals.old classes.old }
 {
     let size = 3 * n;
-    let mut edges = [0.0f64; 1536];
-    let mut codes = [0u8; 512];
-    make(
-        mode,
-        list,
-        n,
-        &mut edges[..size],
-        &mut codes[..n],
-        positions,
-        normals,
-        classes,
-    )
-}
-
-// `make` with small work arrays, as clearing large ones would cost a small ring more than its edges.
-fn make_small(
-    mode: Mode,
-    list: &[f64],
-    n: usize,
-    positions: &mut [f64],
-    normals: &mut [f64],
-    classes: &mut [u8],
-) -> Header
-    requires { B.Lent list.now n (3 * n) n (length positions.old) (length normals.old) (length classes.old) × (n ≤ 16) }
-    ensures { record { header = result; positions = positions.new; normals = normals.new; classes = classes.new }
-        ≡ B.made mode list.now n positions.old normals.old classes.old }
-{
-    let size = 3 * n;
-    let mut edges = [0.0f64; 48];
-    let mut codes = [0u8; 16];
+    let mut edges = [0.0f64; FLOATS];
+    let mut codes = [0u8; N];
     make(
         mode,
         list,
@@ -200,10 +178,11 @@ fn make_with(
     ensures { record { header = result; positions = positions.new; normals = normals.new; classes = classes.new }
         ≡ B.made mode list.now n positions.old normals.old classes.old }
 {
+    // Clearing large work arrays would cost a small ring more than its edges.
     if n <= 16 {
-        return make_small(mode, list, n, positions, normals, classes);
+        return make_within::<16, 48>(mode, list, n, positions, normals, classes);
     }
-    make_large(mode, list, n, positions, normals, classes)
+    make_within::<512, 1536>(mode, list, n, positions, normals, classes)
 }
 
 // Builds a loop: the mode is stored in its header, and nothing else of building goes by it.
@@ -213,17 +192,14 @@ pub fn build(
     positions: &mut [f64],
     normals: &mut [f64],
     classes: &mut [u8],
-) -> Built
+) -> Result<Header, Refusal>
     ensures { record { answer = B.told result; positions = positions.new; normals = normals.new; classes = classes.new }
         ≡ B.build_outcome mode list.now positions.old normals.old classes.old }
 {
-    let f = refusal_of(list, positions, normals, classes);
-    if f != 0 {
-        return Built::Refused(f);
-    }
+    refusal_of(list, positions, normals, classes)?;
     let n = ring_corners::opened(list, list.len() / 3);
     if n < 3 {
-        return Built::Loop(loop_header::empty(mode));
+        return Ok(loop_header::empty(mode));
     }
-    Built::Loop(make_with(mode, list, n, positions, normals, classes))
+    Ok(make_with(mode, list, n, positions, normals, classes))
 }

@@ -1,22 +1,23 @@
 -- A squared chord, or a refusal's number, tells an answer from every other (SCOPE 27), and so each contract leaves one: over the functions' own postconditions, so
 -- that an `ensures` that says less breaks this. Assumes nothing.
-use mathlib.Core.Path.{◌≡◌, refl, sym, ◌∙◌}
+use Rattle.std.proofs.Common.{◌≡◌, Result, Ok, Err, refl, sym, ap, ◌∙◌}
 use Rattle.outcomes.specs.Outcomes.{One, OneToOne}
 use Rattle.outcomes.proofs.Outcomes.{by_back}
-use Rattle.loop_distances.specs.declared.Distance.{Distance}
-use Rattle.loop_distances.specs.declared.Distance.TheVariants as Distance
+use Rattle.judge.specs.declared.Refusal.{Refusal}
+use Rattle.judge.proofs.Numbers.{named, named_number}
+use Rattle.chord_length.specs.declared.ChordLength.{ChordLength}
 use Rattle.loop_distances.specs.Distances.{Told, refused, chord, told_distance}
 use Rattle.loop_distances.proofs.distance_to as OfArc
 use Rattle.loop_distances.proofs.distance_to_boundary as OfLoop
 
 -- ---- from what is told back to the answer
-abbrev back_distance : Told → Distance
-back_distance (refused k) = Distance.Refused k
-back_distance (chord c) = Distance.Chord c
+abbrev back_distance : Told → Result ChordLength Refusal
+back_distance (refused k) = Err (named k)
+back_distance (chord c) = Ok c
 
-distance_back : (x : Distance) → back_distance (told_distance x) ≡ x
-distance_back (Distance.Refused k) = refl
-distance_back (Distance.Chord c) = refl
+distance_back : (x : Result ChordLength Refusal) → back_distance (told_distance x) ≡ x
+distance_back (Err r) = ap Err (named_number r)
+distance_back (Ok c) = refl
 
 pub one_distance : OneToOne told_distance
 one_distance = by_back told_distance back_distance distance_back

@@ -1,5 +1,5 @@
 -- SCOPE 49, 50: how far a position is from an arc and from a loop's border, as a squared chord, and what is answered of it. Definitions only.
-use Rattle.std.specs.Prelude.{ℕ, zero, suc, Bool, List, eqb, Float, if◌then◌else◌}
+use Rattle.std.specs.Prelude.{ℕ, zero, suc, Bool, List, eqb, Float, Result, Ok, Err, if◌then◌else◌}
 use Rattle.std.specs.Float.Ieee.{le}
 use Rattle.numbers.specs.F64.{◌⊕◌, ◌⊖◌, epsilon}
 use Rattle.numbers.specs.F64 as F
@@ -9,6 +9,8 @@ use Rattle.vec3.specs.Vec.{origin, same, cleared, stable_unit, orthogonal_to}
 use Rattle.chord_length.specs.declared.ChordLength.{ChordLength}
 use Rattle.chord_length.specs.Chords.{squared, most, least}
 use Rattle.chord_length.specs.Chords as Chords
+use Rattle.judge.specs.declared.Refusal.{Refusal}
+use Rattle.judge.specs.Refusals.{number}
 use Rattle.minor_arc.specs.declared.MinorArc.{MinorArc}
 use Rattle.minor_arc.specs.Arcs.{within, location_of}
 use Rattle.arcs.specs.Answers.{cleared_arc}
@@ -16,8 +18,6 @@ use Rattle.arcs.specs.Answers as Arcs
 use Rattle.ring_edges.specs.Edges.{edge_at}
 use Rattle.loop_header.specs.declared.Header.{Header}
 use Rattle.loop_ask.specs.Questions.{query_fault}
-use Rattle.loop_distances.specs.declared.Distance.{Distance}
-use Rattle.loop_distances.specs.declared.Distance.TheVariants as Distance
 
 -- ---- SCOPE 49: one arc
 -- the squared chord from p to the end that is nearer, to the start where neither is
@@ -64,9 +64,9 @@ pub data Told : Type 0 where
   refused : ℕ → Told
   chord : ChordLength → Told
 
-abbrev pub told_distance : Distance → Told
-told_distance (Distance.Refused k) = refused k
-told_distance (Distance.Chord c) = chord c
+abbrev pub told_distance : Result ChordLength Refusal → Told
+told_distance (Err r) = refused (number r)
+told_distance (Ok c) = chord c
 
 abbrev pub judged : ℕ → ChordLength → Told
 judged zero c = chord c

@@ -8,6 +8,7 @@ ghost use Rattle.loop_distances.specs.Blocks as B;
 ghost use Rattle.loop_distances.specs.Distances as D;
 
 use chord_length::ChordLength;
+use judge::Refusal;
 use loop_header::Header;
 use minor_arc::MinorArc;
 use vec3::Vec3;
@@ -16,12 +17,6 @@ use vec3::Vec3;
 const SLACK: f64 = 0.000000000014551915228366851806640625;
 
 const WIDE: f64 = 0.00000011920928955078125;
-
-#[derive(Clone, Copy)]
-pub enum Distance {
-    Refused(u8),
-    Chord(ChordLength),
-}
 
 // The squared chord to the nearer end.
 fn nearer_end(a: MinorArc, p: Vec3) -> ChordLength
@@ -246,8 +241,8 @@ fn far_in(
     far_each(positions, normals, n, p, listed, across, units, known)
 }
 
-// The same of at most 16 edges.
-fn far_many(
+// The same of at most N edges, in work arrays of three floats for each.
+fn far_within<const N: usize, const FLOATS: usize>(
     positions: &[f64],
     normals: &[f64],
     n: usize,
@@ -255,42 +250,13 @@ fn far_many(
     listed: &[usize],
     known: ChordLength,
 ) -> ChordLength
-    requires { B.Sized positions.now normals.now n × B.Below n listed.now × (length listed.now ≤ 16) }
+    requires { B.Sized positions.now normals.now n × B.Below n listed.now × (length listed.now ≤ N) × (N ≤ 16) × (FLOATS ≡ 3 * N) }
     ensures { result ≡ B.listed_least positions.now normals.now n p listed.now known }
 {
     let size = 3 * listed.len();
-    let mut work = [0.0f64; 48];
-    let mut across = [0.0f64; 48];
-    let mut units = [0.0f64; 48];
-    far_in(
-        positions,
-        normals,
-        n,
-        p,
-        listed,
-        &mut work[..size],
-        &mut across[..size],
-        &mut units[..size],
-        known,
-    )
-}
-
-// The same of at most four edges, in small arrays: mostly there are no more, and filling large ones costs as much as the rest.
-fn far_few(
-    positions: &[f64],
-    normals: &[f64],
-    n: usize,
-    p: Vec3,
-    listed: &[usize],
-    known: ChordLength,
-) -> ChordLength
-    requires { B.Sized positions.now normals.now n × B.Below n listed.now × (length listed.now ≤ 4) }
-    ensures { result ≡ B.listed_least positions.now normals.now n p listed.now known }
-{
-    let size = 3 * listed.len();
-    let mut work = [0.0f64; 12];
-    let mut across = [0.0f64; 12];
-    let mut units = [0.0f64; 12];
+    let mut work = [0.0f64; FLOATS];
+    let mut across = [0.0f64; FLOATS];
+    let mut units = [0.0f64; FLOATS];
     far_in(
         positions,
         normals,
@@ -316,10 +282,11 @@ fn far_listed(
     requires { B.Sized positions.now normals.now n × B.Below n listed.now × (length listed.now ≤ 16) }
     ensures { result ≡ B.listed_least positions.now normals.now n p listed.now known }
 {
+    // Mostly there are no more than four, and filling large arrays costs as much as the rest.
     if listed.len() <= 4 {
-        return far_few(positions, normals, n, p, listed, known);
+        return far_within::<4, 12>(positions, normals, n, p, listed, known);
     }
-    far_many(positions, normals, n, p, listed, known)
+    far_within::<16, 48>(positions, normals, n, p, listed, known)
 }
 
 // A block of edges: first those that are settled, for which no root is taken, and then the others.
@@ -368,32 +335,28 @@ fn far(positions: &[f64], normals: &[f64], n: usize, p: Vec3) -> ChordLength
 }
 
 // How far a position is from an arc.
-pub fn distance_to(a: MinorArc, p: Vec3) -> Distance
+#[tactic(auto, unfolding(crate::specs::Distances::arc_told))]
+pub fn distance_to(a: MinorArc, p: Vec3) -> Result<ChordLength, Refusal>
     ensures { D.told_distance result ≡ D.arc_answer a p }
 {
     let arc = arcs::clear_arc(a);
     let q = p.clear();
-    let f = arcs::query_fault(arc, q);
-    if f != 0 {
-        return Distance::Refused(f);
-    }
-    Distance::Chord(far_arc(arc, q))
+    arcs::query_fault(arc, q)?;
+    Ok(far_arc(arc, q))
 }
 
 // How far a position is from a loop's border, inside it or outside: 0 where the loop has none.
+#[tactic(auto, using(crate::proofs::Judged::query_sized, crate::proofs::Judged::query_fine), unfolding(crate::specs::Distances::boundary_told))]
 pub fn distance_to_boundary(
     h: Header,
     positions: &[f64],
     normals: &[f64],
     classes: &[u8],
     p: Vec3,
-) -> Distance
+) -> Result<ChordLength, Refusal>
     ensures { D.told_distance result ≡ D.boundary_answer h positions.now normals.now classes.now p }
 {
     let q = p.clear();
-    let f = loop_ask::query_fault(h, positions, normals, classes, q);
-    if f != 0 {
-        return Distance::Refused(f);
-    }
-    Distance::Chord(far(positions, normals, h.count, q))
+    loop_ask::query_fault(h, positions, normals, classes, q)?;
+    Ok(far(positions, normals, h.count, q))
 }

@@ -1,5 +1,5 @@
 -- A slice that is in threes, by quotient and remainder, and what a judge of 0 tells. Assumes nothing.
-use Prim.Native.Nat.{ℕ, suc, ◌*◌, ◌/◌, ◌%◌}
+use Prim.Native.Nat.{ℕ, suc, ◌*◌, ◌/◌, ◌%◌, ◌≤◌}
 use mathlib.Core.Path.{◌≡◌, refl, sym}
 use mathlib.Core.Bool.{Bool, true, false, ◌&&◌, cond}
 use mathlib.Core.List.{List}
@@ -57,3 +57,7 @@ shape h ps cs e =
     let p = both_true _ _ (passed _ 0 e) in
     let q = both_true _ _ p.0 in
     record { fits = q.0; positions = threes_length _ _ q.1; classes = eqb-true _ _ p.1 }
+
+-- as the judges that come after it need it
+pub shaped : (h : Header) (ps : List Float) (cs : List ℕ) → 0 ≡ shape_fault h ps cs → 3 * h.count ≤ length ps
+shaped h ps cs e = let s = shape h ps cs (sym e) in omega (arith, s.positions)

@@ -6,12 +6,11 @@ use mathlib.Core.Logic.{◌⊎◌, inl, inr, ⊎_elim}
 use mathlib.Core.List.{List}
 use native.Mathlib.Omega.{arith}
 use lib.Ieee.{Float}
+use Rattle.std.specs.Prelude.{Option, None, Some}
 use Rattle.numbers.specs.Finite.{finite}
 use Rattle.laws.specs.Loop.{first}
 use Rattle.laws.proofs.Firsts.{first_zero_lem, first_given, first_left, first_right, test_passed}
 use Rattle.vec3.specs.declared.Vec3.{Vec3}
-use Rattle.vec3.specs.declared.Insides.{Insides}
-use Rattle.vec3.specs.declared.Insides.TheVariants.{Absent, Two}
 use Rattle.vec3.specs.Vec.{pos_at}
 use Rattle.cap.specs.declared.Cap.{Cap}
 use Rattle.judge.specs.Judge.{finite_vec, vector_fault}
@@ -104,24 +103,24 @@ cap_not : (c : Cap) → NotFinite c.centre ⊎ (finite c.radius.0 ≡ false) →
 unfolding cap_fault
 cap_not c f = rw ((cap_tells c).bad f)
 
-data InsidesWhy (i : Insides) : ℕ → Type 0 where
+data InsidesWhy (i : Option (Vec3 × Vec3)) : ℕ → Type 0 where
   insides_fine : FiniteInsides i → InsidesWhy i 0
   insides_not : NotFiniteInsides i → InsidesWhy i 3
 
-insides_three : {i : Insides} {k : ℕ} → InsidesWhy i k → Three k
+insides_three : {i : Option (Vec3 × Vec3)} {k : ℕ} → InsidesWhy i k → Three k
 insides_three (insides_fine f) = not_three
 insides_three (insides_not f) = three
 
-two_why : {a b : Vec3} {k : ℕ} → Then (VectorWhy a) (VectorWhy b) k → InsidesWhy (Two a b) k
+two_why : {a b : Vec3} {k : ℕ} → Then (VectorWhy a) (VectorWhy b) k → InsidesWhy (Some (a, b)) k
 two_why (stops (not_finite_vector f)) = insides_not (first_inside_lem f)
 two_why (goes_on_lem w (finite_vector f)) = insides_fine (finite_insides (fault_finite w) f)
 two_why (goes_on_lem w (not_finite_vector f)) = insides_not (second_inside_lem f)
 
-insides_why : (i : Insides) → InsidesWhy i (insides_fault i)
-insides_why Absent = insides_fine no_insides
-insides_why (Two a b) = two_why ((then_exact ((Judge.exact).vector a) (λ z. (Judge.exact).vector b)).given_why _ refl)
+insides_why : (i : Option (Vec3 × Vec3)) → InsidesWhy i (insides_fault i)
+insides_why None = insides_fine no_insides
+insides_why (Some (a, b)) = two_why ((then_exact ((Judge.exact).vector a) (λ z. (Judge.exact).vector b)).given_why _ refl)
 
-why_insides : (i : Insides) (k : ℕ) → InsidesWhy i k → insides_fault i ≡ k
+why_insides : (i : Option (Vec3 × Vec3)) (k : ℕ) → InsidesWhy i k → insides_fault i ≡ k
 why_insides _ _ (insides_fine no_insides) = refl
 why_insides _ _ (insides_fine (finite_insides f g)) = first_right _ _ (finite_fault f) (finite_fault g)
 why_insides _ _ (insides_not (first_inside_lem f)) = first_left _ _ 2 (not_finite_fault f)
@@ -142,7 +141,7 @@ module _ (h : Header) (ns : List Float) where
       normals : NormalsWhy ns h.count 0 → (i : ℕ) → i < h.count → Finite (pos_at ns i)
       normals (every b) i l = fault_finite (b i l)
 
-      insides : {i : Insides} → InsidesWhy i 0 → FiniteInsides i
+      insides : {i : Option (Vec3 × Vec3)} → InsidesWhy i 0 → FiniteInsides i
       insides (insides_fine f) = f
 
   three_why : vectors_fault h ns ≡ 3 → VectorsWhy h ns 3
@@ -158,7 +157,7 @@ module _ (h : Header) (ns : List Float) where
       normals : NormalsWhy ns h.count 3 → VectorsWhy h ns 3
       normals (some i l w) = normal i l (fault_not_finite w)
 
-      insides : {i : Insides} → InsidesWhy i 3 → NotFiniteInsides i
+      insides : {i : Option (Vec3 × Vec3)} → InsidesWhy i 3 → NotFiniteInsides i
       insides (insides_not f) = f
 
   vectors_three : Three (vectors_fault h ns)

@@ -1,11 +1,10 @@
 -- A loop's header (SCOPE 15, 54), and what a loop that is handed back is refused for: the number, 0 for none (SCOPE 25, 26). Definitions only.
-use Rattle.std.specs.Prelude.{ℕ, ◌*◌, ◌%◌, Bool, true, false, ◌&&◌, cond, List, length, get_or, ltb, leb, eqb, Float}
+use Rattle.std.specs.Prelude.{ℕ, ◌*◌, ◌%◌, Bool, true, false, ◌&&◌, cond, List, Option, None, Some, length, get_or, ltb, leb, eqb, Float}
 use Rattle.numbers.specs.Finite.{finite}
 use Rattle.laws.specs.Loop.{first, first_of}
+use Rattle.vec3.specs.declared.Vec3.{Vec3}
 use Rattle.cap.specs.declared.Cap.{Cap}
 use Rattle.cap.specs.Caps.{empty_one, full_one}
-use Rattle.vec3.specs.declared.Insides.{Insides}
-use Rattle.vec3.specs.declared.Insides.TheVariants.{Absent, Two}
 use Rattle.minor_arc.specs.declared.Mode.{Mode}
 use Rattle.judge.specs.Judge.{finite_vec, vector_fault, positions_fault}
 use Rattle.judge.specs.Judge as J
@@ -21,7 +20,7 @@ state_code Ring = 2
 
 -- SCOPE 15: EMPTY is kept and steady, FULL is kept; SCOPE 54: each has the mode that it was built in
 abbrev pub bare_header : Mode → State → Cap → Bool → Header
-bare_header mode state cap weak = record { count = 0; state = state; cap = cap; insides = Absent; reversed = false; weak = weak; mode = mode }
+bare_header mode state cap weak = record { count = 0; state = state; cap = cap; insides = None; reversed = false; weak = weak; mode = mode }
 
 abbrev pub empty_header : Mode → Header
 empty_header mode = bare_header mode Empty empty_one false
@@ -30,9 +29,9 @@ abbrev pub full_header : Mode → Bool → Header
 full_header mode weak = bare_header mode Full full_one weak
 
 -- SCOPE 15: mute is a loop of more than three corners without insides
-abbrev pub is_absent : Insides → Bool
-is_absent Absent = true
-is_absent (Two a b) = false
+abbrev pub is_absent : Option (Vec3 × Vec3) → Bool
+is_absent None = true
+is_absent (Some (a, b)) = false
 
 abbrev pub mute : Header → Bool
 mute h = ltb 3 h.count && is_absent h.insides
@@ -65,9 +64,9 @@ ring_fault h ps cs = first (cond (ltb 512 h.count) 2 0) (first (classes_fault cs
 unfoldable pub cap_fault : Cap → ℕ
 cap_fault c = cond (finite_vec c.centre && finite c.radius.0) 0 3
 
-abbrev pub insides_fault : Insides → ℕ
-insides_fault Absent = 0
-insides_fault (Two a b) = first (vector_fault a 0) (vector_fault b 0)
+abbrev pub insides_fault : Option (Vec3 × Vec3) → ℕ
+insides_fault None = 0
+insides_fault (Some (a, b)) = first (vector_fault a 0) (vector_fault b 0)
 
 -- SCOPE 26: 3, of normals, cap and insides, after all positions
 unfoldable pub vectors_fault : Header → List Float → ℕ

@@ -1,9 +1,7 @@
 -- What a loop that is handed back is refused for, in the words of SCOPE 25 and the order of SCOPE 26, 0 for nothing. Proved in proofs/Exact.antt. Definitions only.
-use Rattle.std.specs.Prelude.{ℕ, suc, ◌*◌, ◌%◌, ◌≤◌, ◌<◌, ◌≡◌, true, false, List, length, get_or, Float}
+use Rattle.std.specs.Prelude.{ℕ, ◌*◌, ◌%◌, ◌≤◌, ◌<◌, ◌≡◌, true, false, List, Option, None, Some, length, get_or, Float}
 use Rattle.numbers.specs.Finite.{finite}
 use Rattle.vec3.specs.declared.Vec3.{Vec3}
-use Rattle.vec3.specs.declared.Insides.{Insides}
-use Rattle.vec3.specs.declared.Insides.TheVariants.{Absent, Two}
 use Rattle.vec3.specs.Vec.{pos_at}
 use Rattle.judge.specs.Why.{Exactly, Then, Finite, NotFinite, PositionsWhy}
 use Rattle.loop_header.specs.declared.State.{State}
@@ -52,14 +50,14 @@ pub data RingWhy (h : Header) (ps : List Float) (cs : List ℕ) : ℕ → Type 0
 
 -- ---- refusal 3 of what a question reads beside
 -- both insides are finite, if there are any
-pub data FiniteInsides : Insides → Type 0 where
-  no_insides : FiniteInsides Absent
-  finite_insides : {a b : Vec3} → Finite a → Finite b → FiniteInsides (Two a b)
+pub data FiniteInsides : Option (Vec3 × Vec3) → Type 0 where
+  no_insides : FiniteInsides None
+  finite_insides : {a b : Vec3} → Finite a → Finite b → FiniteInsides (Some (a, b))
 
 -- one of them is not
-pub data NotFiniteInsides : Insides → Type 0 where
-  first_inside_lem : {a b : Vec3} → NotFinite a → NotFiniteInsides (Two a b)
-  second_inside_lem : {a b : Vec3} → NotFinite b → NotFiniteInsides (Two a b)
+pub data NotFiniteInsides : Option (Vec3 × Vec3) → Type 0 where
+  first_inside_lem : {a b : Vec3} → NotFinite a → NotFiniteInsides (Some (a, b))
+  second_inside_lem : {a b : Vec3} → NotFinite b → NotFiniteInsides (Some (a, b))
 
 -- 3: a normal, the cap's centre or radius, or an inside is not finite; 0: all are
 pub data VectorsWhy (h : Header) (ns : List Float) : ℕ → Type 0 where

@@ -1,14 +1,16 @@
-// A loop's header, and the one judge of a loop that is handed back. A refusal is a number here, 0 for none.
+// A loop's header, and the one judge of a loop that is handed back.
 #![tactic(auto)]
 
 ghost use Rattle.std.specs.Prelude.{◌≡◌, ◌*◌, ◌≤◌, length};
+ghost use Rattle.judge.specs.Refusals.{number_of};
 ghost use Rattle.loop_header.specs.Loops as L;
 
 use cap::Cap;
+use judge::Refusal;
 use minor_arc::Mode;
-use vec3::Insides;
+use vec3::Vec3;
 
-#[derive(Clone, Copy)]
+#[derive(Clone, Copy, Debug, PartialEq, Eq)]
 pub enum State {
     Empty,
     Full,
@@ -21,7 +23,7 @@ pub enum State {
 pub struct Header {
     pub count: usize,
     pub cap: Cap,
-    pub insides: Insides,
+    pub insides: Option<(Vec3, Vec3)>,
     pub state: State,
     pub reversed: bool,
     pub weak: bool,
@@ -36,7 +38,7 @@ fn bare(mode: Mode, state: State, cap: Cap, weak: bool) -> Header
         count: 0,
         state,
         cap,
-        insides: Insides::Absent,
+        insides: None,
         reversed: false,
         weak,
         mode,
@@ -76,126 +78,125 @@ fn threes(size: usize, count: usize) -> bool
 }
 
 // Refusal 1 of a loop without its normals.
-fn shape_fault(h: Header, positions: &[f64], classes: &[u8]) -> u8
-    ensures { result ≡ L.shape_fault h positions.now classes.now }
+#[tactic(auto, unfolding(crate::specs::Loops::shape_fault))]
+fn shape_fault(h: Header, positions: &[f64], classes: &[u8]) -> Result<(), Refusal>
+    ensures { number_of result ≡ L.shape_fault h positions.now classes.now }
 {
     let state = h.state;
     if count_fits(state, h.count) & threes(positions.len(), h.count) & (classes.len() == h.count) {
-        0
+        Ok(())
     } else {
-        1
+        Err(Refusal::Shape)
     }
 }
 
 // Refusal 6: the first class code above 2.
-fn classes_fault(classes: &[u8]) -> u8
-    ensures { result ≡ L.classes_fault classes.now }
+fn classes_fault(classes: &[u8]) -> Result<(), Refusal>
+    ensures { number_of result ≡ L.classes_fault classes.now }
 {
-    for i in 0..classes.len() {
-        if classes[i] > 2 {
-            return 6;
+    for class in classes {
+        if *class > 2 {
+            return Err(Refusal::UnknownClass);
         }
     }
-    0
+    Ok(())
 }
 
 // Refusals 2, 6, 3 and 4 of a loop that has the right shape, without its normals, cap and insides.
-fn ring_fault(h: Header, positions: &[f64], classes: &[u8]) -> u8
+#[tactic(auto, unfolding(crate::specs::Loops::ring_fault))]
+fn ring_fault(h: Header, positions: &[f64], classes: &[u8]) -> Result<(), Refusal>
     requires { 3 * h.count ≤ length positions.now }
-    ensures { result ≡ L.ring_fault h positions.now classes.now }
+    ensures { number_of result ≡ L.ring_fault h positions.now classes.now }
 {
     if h.count > 512 {
-        return 2;
+        return Err(Refusal::TooMany);
     }
-    let f = classes_fault(classes);
-    if f != 0 {
-        return f;
-    }
+    classes_fault(classes)?;
     judge::positions_fault(positions, h.count)
 }
 
 // What cutting and the checker refuse: they read a loop's count, state, positions and classes alone.
-pub fn cut_fault(h: Header, positions: &[f64], classes: &[u8]) -> u8
-    ensures { result ≡ L.cut_fault h positions.now classes.now }
+#[tactic(auto, using(crate::proofs::Shapes::shaped), unfolding(crate::specs::Loops::cut_fault))]
+pub fn cut_fault(h: Header, positions: &[f64], classes: &[u8]) -> Result<(), Refusal>
+    ensures { number_of result ≡ L.cut_fault h positions.now classes.now }
 {
-    let f = shape_fault(h, positions, classes);
-    if f != 0 {
-        return f;
-    }
+    shape_fault(h, positions, classes)?;
     ring_fault(h, positions, classes)
 }
 
 // Refusal 9: the checker is given an empty or full loop.
-fn ring_only(state: State) -> u8
-    ensures { result ≡ L.ring_only state }
+fn ring_only(state: State) -> Result<(), Refusal>
+    ensures { number_of result ≡ L.ring_only state }
 {
     match state {
-        State::Empty => 9,
-        State::Full => 9,
-        State::Ring => 0,
+        State::Empty => Err(Refusal::NoRing),
+        State::Full => Err(Refusal::NoRing),
+        State::Ring => Ok(()),
     }
 }
 
 // What the checker refuses, of a loop and a triangle slice of a size: that it is not in threes comes with the loop's own 1.
-pub fn check_fault(h: Header, positions: &[f64], classes: &[u8], size: usize) -> u8
-    ensures { result ≡ L.check_fault h positions.now classes.now size }
+#[tactic(auto, using(crate::proofs::Shapes::shaped), unfolding(crate::specs::Loops::check_fault))]
+pub fn check_fault(h: Header, positions: &[f64], classes: &[u8], size: usize) -> Result<(), Refusal>
+    ensures { number_of result ≡ L.check_fault h positions.now classes.now size }
 {
-    let f = shape_fault(h, positions, classes);
-    if f != 0 {
-        return f;
-    }
+    shape_fault(h, positions, classes)?;
     if size % 3 != 0 {
-        return 1;
+        return Err(Refusal::Shape);
     }
+    ring_fault(h, positions, classes)?;
     let state = h.state;
-    judge::first(ring_fault(h, positions, classes), ring_only(state))
+    ring_only(state)
 }
 
 // Refusal 3 of a cap.
-fn cap_fault(c: Cap) -> u8
-    ensures { result ≡ L.cap_fault c }
+#[tactic(auto, unfolding(crate::specs::Loops::cap_fault))]
+fn cap_fault(c: Cap) -> Result<(), Refusal>
+    ensures { number_of result ≡ L.cap_fault c }
 {
     if judge::is_finite(c.centre) & numbers::is_finite(c.radius.0) {
-        0
+        Ok(())
     } else {
-        3
+        Err(Refusal::NotFinite)
     }
 }
 
 // Refusal 3 of insides; absent ones hold no number.
-fn insides_fault(i: Insides) -> u8
-    ensures { result ≡ L.insides_fault i }
+fn insides_fault(i: Option<(Vec3, Vec3)>) -> Result<(), Refusal>
+    ensures { number_of result ≡ L.insides_fault i }
 {
     match i {
-        Insides::Absent => 0,
-        Insides::Two(a, b) => judge::first(judge::vector_fault(a), judge::vector_fault(b)),
+        None => Ok(()),
+        Some((a, b)) => judge::vector_fault(a).and(judge::vector_fault(b)),
     }
 }
 
 // Refusal 3 of normals, cap and insides.
-fn vectors_fault(h: Header, normals: &[f64]) -> u8
+#[tactic(auto, unfolding(crate::specs::Loops::vectors_fault))]
+fn vectors_fault(h: Header, normals: &[f64]) -> Result<(), Refusal>
     requires { 3 * h.count ≤ length normals.now }
-    ensures { result ≡ L.vectors_fault h normals.now }
+    ensures { number_of result ≡ L.vectors_fault h normals.now }
 {
-    let f = judge::vectors_fault(normals, h.count);
+    judge::vectors_fault(normals, h.count)?;
+    cap_fault(h.cap)?;
     let insides = h.insides;
-    judge::first(f, judge::first(cap_fault(h.cap), insides_fault(insides)))
+    insides_fault(insides)
 }
 
 // What every question refuses of a loop, whether it reads the whole of it or less.
-pub fn loop_fault(h: Header, positions: &[f64], normals: &[f64], classes: &[u8]) -> u8
-    ensures { result ≡ L.loop_fault h positions.now normals.now classes.now }
+#[tactic(auto, using(crate::proofs::Shapes::shaped, crate::proofs::Shapes::threes_length), unfolding(crate::specs::Loops::loop_fault))]
+pub fn loop_fault(
+    h: Header,
+    positions: &[f64],
+    normals: &[f64],
+    classes: &[u8],
+) -> Result<(), Refusal>
+    ensures { number_of result ≡ L.loop_fault h positions.now normals.now classes.now }
 {
-    let f = shape_fault(h, positions, classes);
-    if f != 0 {
-        return f;
-    }
+    shape_fault(h, positions, classes)?;
     if !threes(normals.len(), h.count) {
-        return 1;
+        return Err(Refusal::Shape);
     }
-    let g = ring_fault(h, positions, classes);
-    if g != 0 {
-        return g;
-    }
+    ring_fault(h, positions, classes)?;
     vectors_fault(h, normals)
 }

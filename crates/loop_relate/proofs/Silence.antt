@@ -8,12 +8,10 @@ use native.Mathlib.Omega.{arith}
 use lib.Dec.{ltb}
 use lib.Ieee.{Float}
 use borrow.Author.Tests.{ltb-true, lt-ltb, le-ltb, eqb-true}
-use Rattle.std.specs.Prelude.{if◌then◌else◌}
+use Rattle.std.specs.Prelude.{Option, None, Some, if◌then◌else◌}
 use Rattle.laws.proofs.Firsts.{first_zero_lem}
 use Rattle.vec3.specs.declared.Vec3.{Vec3}
 use Rattle.vec3.specs.Vec.{pos_at}
-use Rattle.vec3.specs.declared.Insides.{Insides}
-use Rattle.vec3.specs.declared.Insides.TheVariants.{Absent, Two}
 use Rattle.loop_header.specs.declared.State.{State}
 use Rattle.loop_header.specs.declared.State.TheVariants.{Empty, Full, Ring}
 use Rattle.loop_header.specs.declared.Header.{Header}
@@ -143,9 +141,9 @@ module _ (r w : Bool) (h : Header) where
   unfolding place_without
   place_unread ps ns p = go h.insides
     where
-      go : (i : Insides) → place_by i (marked r w h) ps ns p ≡ place_by i h ps ns p
-      go Absent = refl
-      go (Two a b) = refl
+      go : (i : Option (Vec3 × Vec3)) → place_by i (marked r w h) ps ns p ≡ place_by i h ps ns p
+      go None = refl
+      go (Some (a, b)) = refl
 
   fault_unread : (ps ns : List Float) (cs : List ℕ) → loop_fault (marked r w h) ps ns cs ≡ loop_fault h ps ns cs
   unfolding loop_fault shape_fault ring_fault vectors_fault

@@ -1,11 +1,13 @@
 -- SCOPE 24, 55, 56: how two loops stand to each other, the refusal or the relation's number. Definitions only.
-use Rattle.std.specs.Prelude.{ℕ, zero, suc, ◌*◌, ◌≤◌, Bool, true, false, not, ◌&&◌, ◌||◌, List, length, ltb, Float}
+use Rattle.std.specs.Prelude.{ℕ, zero, suc, ◌*◌, ◌≤◌, Bool, true, false, not, ◌&&◌, ◌||◌, List, length, ltb, Float, Result, Ok, Err}
 use Rattle.laws.specs.Loop.{first}
 use Rattle.vec3.specs.declared.Vec3.{Vec3}
 use Rattle.cap.specs.declared.Cap.{Cap}
 use Rattle.cap.specs.Caps.{intersects}
 use Rattle.minor_arc.specs.declared.Mode.{Mode}
 use Rattle.minor_arc.specs.declared.Mode.TheVariants.{Plain, Long}
+use Rattle.judge.specs.declared.Refusal.{Refusal}
+use Rattle.judge.specs.Refusals.{number}
 use Rattle.loop_header.specs.declared.State.{State}
 use Rattle.loop_header.specs.declared.State.TheVariants.{Empty, Full, Ring}
 use Rattle.loop_header.specs.declared.Header.{Header}
@@ -16,18 +18,21 @@ use Rattle.ring_pair.specs.Probes.{unambiguous_point, asked_midpoint}
 use Rattle.loop_ask.specs.Answers.{Told, refused, answer, judged}
 use Rattle.loop_ask.specs.Places.{cleared_cap, place_of}
 use Rattle.loop_ask.specs.Questions.{full_state, pair_fault, equivalent_loops}
-use Rattle.loop_relate.specs.declared.Related.{Related}
-use Rattle.loop_relate.specs.declared.Related.TheVariants as Related
+use Rattle.loop_relate.specs.declared.Relation.{Relation}
+use Rattle.loop_relate.specs.declared.Relation.TheVariants.{Disjoint, Touching, Intersecting, Containing, Within, Equal}
 
 -- SCOPE 24: the number of each relation
-abbrev pub told_related : Related → Told
-told_related (Related.Refused k) = refused k
-told_related Related.Disjoint = answer 0
-told_related Related.Touching = answer 1
-told_related Related.Intersecting = answer 2
-told_related Related.Containing = answer 3
-told_related Related.Within = answer 4
-told_related Related.Equal = answer 5
+abbrev pub relation_code : Relation → ℕ
+relation_code Disjoint = 0
+relation_code Touching = 1
+relation_code Intersecting = 2
+relation_code Containing = 3
+relation_code Within = 4
+relation_code Equal = 5
+
+abbrev pub told_related : Result Relation Refusal → Told
+told_related (Ok r) = answer (relation_code r)
+told_related (Err r) = refused (number r)
 
 abbrev pub empty_state : State → Bool
 empty_state Empty = true

@@ -2,20 +2,22 @@
 #![tactic(auto)]
 
 ghost use Rattle.std.specs.Prelude.{◌≡◌, ◌*◌, ◌≤◌, length};
+ghost use Rattle.judge.specs.Refusals.{number_of};
 ghost use Rattle.loop_ask.specs.Answers as An;
 ghost use Rattle.loop_ask.specs.Places as P;
 ghost use Rattle.loop_ask.specs.Questions as Q;
 ghost use Rattle.loop_relate.specs.Relations as Rel;
 
 use cap::Cap;
-use loop_ask::Placed;
+use judge::Refusal;
+use loop_ask::Place;
 use loop_header::{Header, State};
 use minor_arc::Mode;
 use ring_pair::Probe;
 
-#[derive(Clone, Copy)]
-pub enum Related {
-    Refused(u8),
+// How a first loop stands to a second: it contains the second, or lies within it.
+#[derive(Clone, Copy, Debug, PartialEq, Eq)]
+pub enum Relation {
     Disjoint,
     Touching,
     Intersecting,
@@ -35,17 +37,17 @@ fn is_empty(state: State) -> bool
 }
 
 // Loops of different modes are refused, as no one mode would answer for both.
-fn modes_fault(m: Mode, n: Mode) -> u8
-    ensures { result ≡ Rel.modes_fault m n }
+fn modes_fault(m: Mode, n: Mode) -> Result<(), Refusal>
+    ensures { number_of result ≡ Rel.modes_fault m n }
 {
     match m {
         Mode::Plain => match n {
-            Mode::Plain => 0,
-            Mode::Long => 11,
+            Mode::Plain => Ok(()),
+            Mode::Long => Err(Refusal::TwoModes),
         },
         Mode::Long => match n {
-            Mode::Plain => 11,
-            Mode::Long => 0,
+            Mode::Plain => Err(Refusal::TwoModes),
+            Mode::Long => Ok(()),
         },
     }
 }
@@ -62,14 +64,13 @@ fn caps_meet(mode: Mode, one: Cap, other: Cap) -> bool
 }
 
 // A mute loop contains nothing, as in the source.
-fn is_inside(p: Placed) -> bool
-    ensures { result ≡ Rel.is_inside (An.told_placed p) }
+fn is_inside(p: Place) -> bool
+    ensures { result ≡ Rel.is_inside (An.answer (An.place_code p)) }
 {
     match p {
-        Placed::Refused(_) => false,
-        Placed::Outside => false,
-        Placed::Inside => true,
-        Placed::Mute => false,
+        Place::Outside => false,
+        Place::Inside => true,
+        Place::Mute => false,
     }
 }
 
@@ -80,12 +81,13 @@ fn probe_inside(at: Probe, o: Header, others: &[f64], theirs: &[f64]) -> bool
 {
     match at {
         Probe::Nowhere => false,
-        Probe::Corner(p) => is_inside(loop_ask::place(o, others, theirs, p)),
-        Probe::Middle(p) => is_inside(loop_ask::place(o, others, theirs, p)),
+        Probe::Corner(p) => is_inside(loop_ask::locate(o, others, theirs, p)),
+        Probe::Middle(p) => is_inside(loop_ask::locate(o, others, theirs, p)),
     }
 }
 
 // Whether a point of the first loop that is on no edge of the second lies in the second.
+#[tactic(auto, unfolding(crate::specs::Relations::lies_in))]
 fn lies_in(h: Header, positions: &[f64], o: Header, others: &[f64], theirs: &[f64]) -> bool
     requires { (h.count ≤ 512) × (3 * h.count ≤ length positions.now) × (o.count ≤ 512) × (3 * o.count ≤ length others.now) × (3 * o.count ≤ length theirs.now) }
     ensures { result ≡ Rel.lies_in h positions.now o others.now theirs.now }
@@ -99,26 +101,27 @@ fn lies_in(h: Header, positions: &[f64], o: Header, others: &[f64], theirs: &[f6
 }
 
 // No edges cross, so containment both ways decides.
-fn by_containment(touched: bool, within: bool, containing: bool) -> Related
+fn by_containment(touched: bool, within: bool, containing: bool) -> Result<Relation, Refusal>
     ensures { Rel.told_related result ≡ Rel.by_containment touched within containing }
 {
     if within {
         if containing {
-            return Related::Refused(7);
+            return Err(Refusal::EachInside);
         }
-        return Related::Within;
+        return Ok(Relation::Within);
     }
     if containing {
-        return Related::Containing;
+        return Ok(Relation::Containing);
     }
     if touched {
-        Related::Touching
+        Ok(Relation::Touching)
     } else {
-        Related::Disjoint
+        Ok(Relation::Disjoint)
     }
 }
 
 // Every edge with every edge, and then containment. Both searches run.
+#[tactic(auto, unfolding(crate::specs::Relations::by_edges))]
 fn by_edges(
     h: Header,
     positions: &[f64],
@@ -126,14 +129,14 @@ fn by_edges(
     o: Header,
     others: &[f64],
     theirs: &[f64],
-) -> Related
+) -> Result<Relation, Refusal>
     requires { Rel.Sized h positions.now normals.now o others.now theirs.now }
     ensures { Rel.told_related result ≡ Rel.by_edges h positions.now normals.now o others.now theirs.now }
 {
     let mode = h.mode;
     let k = ring_pair::contact_of(mode, positions, normals, h.count, others, theirs, o.count);
     if ring_pair::is_crossed(k) {
-        return Related::Intersecting;
+        return Ok(Relation::Intersecting);
     }
     let within = lies_in(h, positions, o, others, theirs);
     let containing = lies_in(o, others, h, positions, normals);
@@ -141,6 +144,7 @@ fn by_edges(
 }
 
 // The caps first, where they are asked, then equivalence, then the edges: each cheaper than the next.
+#[tactic(auto, unfolding(crate::specs::Relations::by_caps))]
 fn by_caps(
     h: Header,
     positions: &[f64],
@@ -150,7 +154,7 @@ fn by_caps(
     others: &[f64],
     theirs: &[f64],
     codes: &[u8],
-) -> Related
+) -> Result<Relation, Refusal>
     requires sized { Rel.Sized h positions.now normals.now o others.now theirs.now }
     requires comparable { Q.Comparable h positions.now classes.now o others.now codes.now }
     ensures { Rel.told_related result ≡ Rel.by_caps h positions.now normals.now classes.now o others.now theirs.now codes.now }
@@ -159,15 +163,16 @@ fn by_caps(
     let one = h.cap;
     let other = o.cap;
     if !caps_meet(mode, one, other) {
-        return Related::Disjoint;
+        return Ok(Relation::Disjoint);
     }
     if loop_ask::equivalent(h, positions, classes, o, others, codes) {
-        return Related::Equal;
+        return Ok(Relation::Equal);
     }
     by_edges(h, positions, normals, o, others, theirs)
 }
 
 // Full and empty loops first.
+#[tactic(auto, unfolding(crate::specs::Relations::by_states))]
 fn by_states(
     h: Header,
     positions: &[f64],
@@ -177,7 +182,7 @@ fn by_states(
     others: &[f64],
     theirs: &[f64],
     codes: &[u8],
-) -> Related
+) -> Result<Relation, Refusal>
     requires sized { Rel.Sized h positions.now normals.now o others.now theirs.now }
     requires comparable { Q.Comparable h positions.now classes.now o others.now codes.now }
     ensures { Rel.told_related result ≡ Rel.by_states h positions.now normals.now classes.now o others.now theirs.now codes.now }
@@ -186,17 +191,18 @@ fn by_states(
     let other = o.state;
     if loop_ask::is_full(one) {
         if loop_ask::is_full(other) {
-            return Related::Equal;
+            return Ok(Relation::Equal);
         }
-        return Related::Containing;
+        return Ok(Relation::Containing);
     }
     if is_empty(one) & is_empty(other) {
-        return Related::Equal;
+        return Ok(Relation::Equal);
     }
     by_caps(h, positions, normals, classes, o, others, theirs, codes)
 }
 
 // How two loops stand to each other.
+#[tactic(auto, using(crate::proofs::Sizes::sized, loop_ask::proofs::Judged::comparable), unfolding(crate::specs::Relations::relate_fault, crate::specs::Relations::relate_answer))]
 pub fn relate(
     h: Header,
     positions: &[f64],
@@ -206,17 +212,12 @@ pub fn relate(
     others: &[f64],
     theirs: &[f64],
     codes: &[u8],
-) -> Related
+) -> Result<Relation, Refusal>
     ensures { Rel.told_related result ≡ Rel.relate_answer h positions.now normals.now classes.now o others.now theirs.now codes.now }
 {
+    loop_ask::pair_fault(h, positions, normals, classes, o, others, theirs, codes)?;
     let mode = h.mode;
     let their_mode = o.mode;
-    let f = judge::first(
-        loop_ask::pair_fault(h, positions, normals, classes, o, others, theirs, codes),
-        modes_fault(mode, their_mode),
-    );
-    if f != 0 {
-        return Related::Refused(f);
-    }
+    modes_fault(mode, their_mode)?;
     by_states(h, positions, normals, classes, o, others, theirs, codes)
 }

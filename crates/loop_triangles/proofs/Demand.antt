@@ -42,17 +42,17 @@ module _ (h : Header) (ps : List Float) (cs tris : List ℕ) where
   pub yes_ears : accepts_answer h ps cs tris ≡ answer 1 → CutBy ps (Eligible ps) (C.whole_ring cs) tris
   yes_ears e =
       let p = yes_accepted e in
-      (demand ps cs (check_ring h ps cs (length tris) refl p.0).least).only_ears tris p.1
+      (demand ps cs (check_ring h ps cs (length tris) (sym p.0)).least).only_ears tris p.1
 
   pub yes_sides : accepts_answer h ps cs tris ≡ answer 1 → Demand3 (length cs) tris
   yes_sides e =
       let p = yes_accepted e in
-      (demand ps cs (check_ring h ps cs (length tris) refl p.0).least).sides tris p.1
+      (demand ps cs (check_ring h ps cs (length tris) (sym p.0)).least).sides tris p.1
 
 -- ---- our own cutting of a ring that is not refused, given room
 module _ (h : Header) (ps : List Float) (cs tris : List ℕ) (f : cut_fault h ps cs ≡ 0) (r : h.state ≡ Ring) (room : 3 * (length cs - 2) ≤ length tris) where
   whole : C.Ring ps cs
-  whole = cut_ring h ps cs refl f r
+  whole = cut_ring h ps cs (sym f) r
 
   pub cut_is : triangulate_outcome h ps cs tris ≡ laid (C.cut_ring_outcome ps cs tris) (length cs - 2)
   unfolding triangulate_outcome ring_outcome
@@ -92,7 +92,7 @@ module _ (h : Header) (ps : List Float) (cs tris : List ℕ) where
   ears_only e = record { count = (yes_sides h ps cs tris e).count; ears = yes_ears h ps cs tris e }
 
   ears_all : check_fault h ps cs (length tris) ≡ 0 → Ears ps cs tris → accepts_answer h ps cs tris ≡ answer 1
-  ears_all f e = accepted_yes h ps cs tris f ((demand ps cs (check_ring h ps cs (length tris) refl f).least).all_ears tris e.ears)
+  ears_all f e = accepted_yes h ps cs tris f ((demand ps cs (check_ring h ps cs (length tris) (sym f)).least).all_ears tris e.ears)
 
   no_or_yes : (b : Bool) → accepted ps cs tris ≡ b → check_fault h ps cs (length tris) ≡ 0 → (Ears ps cs tris → ⊥) → accepts_answer h ps cs tris ≡ answer 0
   unfolding accepts_answer
@@ -114,12 +114,12 @@ module _ (h : Header) (ps : List Float) (cs tris : List ℕ) (g : Cuttable h ps 
   own = (C.cutting_of ps cs).triangles
 
   not_met : (C.cutting_of ps cs).stuck ≡ false → MeetsNoEar ps (C.whole_ring cs) → ⊥
-  not_met e m = false≢true (sym e ∙ (demand ps cs (cut_ring h ps cs refl g.fine g.ring).least).meets_stuck m)
+  not_met e m = false≢true (sym e ∙ (demand ps cs (cut_ring h ps cs (sym g.fine) g.ring).least).meets_stuck m)
 
   own_list : (C.cutting_of ps cs).stuck ≡ false → OwnList h ps cs tris
   own_list e =
       let c = cut_lowest h ps cs tris g.fine g.ring g.room e in
-      let d = (demand ps cs (cut_ring h ps cs refl g.fine g.ring).least).sides own c.2 in
+      let d = (demand ps cs (cut_ring h ps cs (sym g.fine) g.ring).least).sides own c.2 in
       record {
         list = own;
         answered = c.0;
@@ -130,7 +130,7 @@ module _ (h : Header) (ps : List Float) (cs tris : List ℕ) (g : Cuttable h ps 
 
   one_or_other : (b : Bool) → (C.cutting_of ps cs).stuck ≡ b → Cutting h ps cs tris
   one_or_other true e =
-      let m = (demand ps cs (cut_ring h ps cs refl g.fine g.ring).least).stuck_meets e in
+      let m = (demand ps cs (cut_ring h ps cs (sym g.fine) g.ring).least).stuck_meets e in
       stuck m (no_ear_refused h ps cs tris g.fine g.ring g.room m)
   one_or_other false e = through (not_met e) (own_list e)
 

@@ -20,7 +20,7 @@ use Rattle.loop_header.specs.declared.Header.{Header}
 use Rattle.loop_header.specs.Loops.{cut_fault}
 use Rattle.loop_header.proofs.Sounds.{cuttable}
 use Rattle.loop_header.proofs.Exact as Header
-use Rattle.loop_ask.specs.Answers.{Told, refused, answer, judged}
+use Rattle.loop_ask.specs.Answers.{answer, judged}
 use Rattle.loop_ask.proofs.Exact.{judged_exact, asked_exact}
 use Rattle.loop_triangles.specs.Triangles.{Outcome, outcome, roomy, cut_told, full_outcome, ring_outcome, state_outcome, outcome_by, triangulate_outcome, accepts_answer}
 use Rattle.loop_triangles.specs.Why.{TrianglesWhy, empty_fits, full_short, full_fits, ring_short, no_ear, ears, TriangulateWhy, Exact}
@@ -102,7 +102,7 @@ by_told (suc k) m n tris o e = refl
 
 module _ (h : Header) (ps : List Float) (cs tris : List ℕ) where
   later_exact : cut_fault h ps cs ≡ 0 → Exactly (state_fault ps cs (length tris) h.state) (TrianglesWhy h.count (length tris) ps cs h.state)
-  later_exact z = rw (← (cuttable h ps cs z).shaped.classes) (state_exact ps cs (length tris) h.state (λ r. (cut_ring h ps cs refl z r).least))
+  later_exact z = rw (← (cuttable h ps cs z).shaped.classes) (state_exact ps cs (length tris) h.state (λ r. (cut_ring h ps cs (sym z) r).least))
 
   number_exact : Exactly (first (cut_fault h ps cs) (state_fault ps cs (length tris) h.state)) (TriangulateWhy h ps cs tris)
   number_exact = then_exact (Header.exact h ps cs).cutting later_exact

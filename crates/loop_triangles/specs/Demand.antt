@@ -1,6 +1,6 @@
 -- Demand 3, the theorem on ears (SCOPE 20), over the public functions `triangulate` and `accepts` as they answer and as they leave the lent triangles, each
 -- field under its sentence there. Proved in proofs/Demand.antt: demand_3. Definitions only.
-use Rattle.std.specs.Prelude.{ℕ, ◌-◌, ◌*◌, ◌%◌, ◌≤◌, ◌≡◌, List, ◌++◌, length, drop, Float}
+use Rattle.std.specs.Prelude.{ℕ, ◌-◌, ◌*◌, ◌≤◌, ◌≡◌, List, ◌++◌, length, drop, Float}
 use Rattle.ring_theory.specs.Demand3.{Demand3}
 use Rattle.ring_cut.specs.Cut.{whole_ring}
 use Rattle.ring_cut.specs.Accepted.{CutBy, Eligible, Lowest}

@@ -1,5 +1,7 @@
 -- What cutting and the checker answer, and what cutting leaves in its output (SCOPE 17, 19, 20). Definitions only.
-use Rattle.std.specs.Prelude.{ℕ, zero, suc, ◌-◌, ◌*◌, Bool, true, false, List, ◌++◌, length, drop, ltb, Float}
+use Rattle.std.specs.Prelude.{ℕ, zero, suc, ◌-◌, ◌*◌, Bool, true, false, List, ◌++◌, length, drop, ltb, Float, Result, Ok, Err}
+use Rattle.judge.specs.declared.Refusal.{Refusal}
+use Rattle.judge.specs.Refusals.{number}
 use Rattle.icosahedron.specs.Table.{triples}
 use Rattle.ring_cut.specs.Cut as C
 use Rattle.ring_check.specs.Accepted.{accepted}
@@ -8,13 +10,11 @@ use Rattle.loop_header.specs.declared.State.TheVariants.{Empty, Full, Ring}
 use Rattle.loop_header.specs.declared.Header.{Header}
 use Rattle.loop_header.specs.Loops.{cut_fault, check_fault}
 use Rattle.loop_ask.specs.Answers.{Told, refused, answer, bool_told, judged}
-use Rattle.loop_triangles.specs.declared.Cut.{Cut}
-use Rattle.loop_triangles.specs.declared.Cut.TheVariants.{Refused, Triangles}
 
 -- SCOPE 27: the refusal's number, or the number of triples
-abbrev pub told_cut : Cut → Told
-told_cut (Refused k) = refused k
-told_cut (Triangles n) = answer n
+abbrev pub told_cut : Result ℕ Refusal → Told
+told_cut (Err r) = refused (number r)
+told_cut (Ok n) = answer n
 
 -- an answer, and the output at exit
 pub record Outcome : Type 0 where

@@ -1,3 +1,4 @@
+pub mod Firsts
 pub mod Clears
 pub mod Missing
 pub mod Opposites

@@ -2,10 +2,9 @@
 use mathlib.Core.Path.{◌≡◌, refl, sym, ap₂, ◌∙◌}
 use mathlib.Core.Bool.{Bool, true, false, ◌&&◌, ◌||◌, false≢true}
 use lib.Ieee.{neg, lt}
-use Rattle.std.specs.Prelude.{if◌then◌else◌}
+use Rattle.std.specs.Prelude.{None, if◌then◌else◌}
 use Rattle.numbers.specs.F64.{zero}
 use Rattle.vec3.specs.declared.Vec3.{Vec3}
-use Rattle.vec3.specs.declared.Point.TheVariants.{Absent}
 use Rattle.vec3.specs.Vec.{origin, same, opposite, dot, cross, stable_unit}
 use Rattle.base.specs.declared.Side.{Side}
 use Rattle.base.specs.declared.Side.TheVariants.{Left, Right, Collinear}
@@ -102,17 +101,21 @@ module _ (a b : MinorArc) where
   second_apart Plain p h = by_second p h
   second_apart Long p h = rw (by_second p h.0, by_second (opposite p) h.1)
 
-either_way : (b : Bool) (m : Meeting) → m ≡ M.Apart → meeting_point (if b then M.Collinear else m) ≡ Absent
+either_way : (b : Bool) (m : Meeting) → m ≡ M.Apart → meeting_point (if b then M.Collinear else m) ≡ None
 either_way true m e = refl
 either_way false m e = rw e
 
 pub candidate_stored : (a b : MinorArc) {i : Vec3} → i ≡ stable_unit a.normal b.normal → Stored i
 candidate_stored a b e = rw e (stable_stored a.normal b.normal)
 
+-- the vector at hand, and of it and its opposite the one tried, is as a point is stored
+pub nearer_candidate_stored : (a b : MinorArc) (i : Vec3) → i ≡ stable_unit a.normal b.normal → Stored (nearer a.start i)
+nearer_candidate_stored a b i e = nearer_stored a.start i (candidate_stored a b e)
+
 -- with the unit vector of the normals' product at hand
 module _ (mode : Mode) (a b : MinorArc) {i : Vec3} (e : i ≡ stable_unit a.normal b.normal) where
   stored : Stored (nearer a.start i)
-  stored = nearer_stored a.start i (candidate_stored a b e)
+  stored = nearer_candidate_stored a b i e
 
   pub missed_apart : missed mode a i ≡ true → tried mode a b (nearer a.start i) ≡ M.Apart
   unfolding missed
@@ -122,12 +125,12 @@ module _ (mode : Mode) (a b : MinorArc) {i : Vec3} (e : i ≡ stable_unit a.norm
   unfolding missed_other
   other_apart h = second_apart a b mode (nearer a.start i) (exteriors b mode (nearer a.start i) stored h)
 
-  none : tried mode a b (nearer a.start i) ≡ M.Apart → Absent ≡ meeting_point (meeting_of mode a b)
+  none : tried mode a b (nearer a.start i) ≡ M.Apart → None ≡ meeting_point (meeting_of mode a b)
   unfolding meeting_of
   none h = rw (← e) (sym (either_way (same i origin) (tried mode a b (nearer a.start i)) h))
 
-  pub missed_none : missed mode a i ≡ true → Absent ≡ meeting_point (meeting_of mode a b)
+  pub missed_none : missed mode a i ≡ true → None ≡ meeting_point (meeting_of mode a b)
   missed_none h = none (missed_apart h)
 
-  pub missed_other_none : missed_other mode a b i ≡ true → Absent ≡ meeting_point (meeting_of mode a b)
+  pub missed_other_none : missed_other mode a b i ≡ true → None ≡ meeting_point (meeting_of mode a b)
   missed_other_none h = none (other_apart h)

@@ -1,11 +1,9 @@
 -- SCOPE 7, 8, 54: minor arcs, where a point of an arc's great circle lies, and where two arcs meet, by the mode. Definitions only.
-use Rattle.std.specs.Prelude.{ℕ, Bool, true, false, ◌&&◌, ◌||◌, ltb, Float, if◌then◌else◌}
+use Rattle.std.specs.Prelude.{ℕ, Bool, true, false, Option, None, Some, ◌&&◌, ◌||◌, ltb, Float, if◌then◌else◌}
 use Rattle.std.specs.Float.Ieee.{neg, lt}
 use Rattle.numbers.specs.F64.{zero}
 use Rattle.numbers.specs.Near.{near}
 use Rattle.vec3.specs.declared.Vec3.{Vec3}
-use Rattle.vec3.specs.declared.Point.{Point}
-use Rattle.vec3.specs.declared.Point.TheVariants.{Absent, At}
 use Rattle.vec3.specs.Vec.{origin, same, dot, cross, opposite, stable_unit, orthogonal_to}
 use Rattle.base.specs.declared.Side.{Side}
 use Rattle.base.specs.declared.Side.TheVariants.{Left, Right, Collinear}
@@ -120,8 +118,8 @@ meeting_of mode a b =
     if same i origin then M.Collinear else tried mode a b (nearer a.start i)
 
 -- SCOPE 8: what `intersection` makes of it, none for collinear arcs
-abbrev pub meeting_point : Meeting → Point
-meeting_point M.Apart = Absent
-meeting_point M.Collinear = Absent
-meeting_point (M.Crossing p) = At p
-meeting_point (M.Touching p) = At p
+abbrev pub meeting_point : Meeting → Option Vec3
+meeting_point M.Apart = None
+meeting_point M.Collinear = None
+meeting_point (M.Crossing p) = Some p
+meeting_point (M.Touching p) = Some p

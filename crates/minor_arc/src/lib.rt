@@ -8,7 +8,7 @@ ghost use Rattle.signs.specs.Mirrors.{Stored};
 ghost use Rattle.minor_arc.specs.Arcs as Arcs;
 
 use base::Side;
-use vec3::{Point, Vec3};
+use vec3::Vec3;
 
 #[derive(Clone, Copy)]
 pub struct MinorArc {
@@ -18,7 +18,7 @@ pub struct MinorArc {
 }
 
 // Where a point of an arc's great circle lies.
-#[derive(Clone, Copy)]
+#[derive(Clone, Copy, Debug, PartialEq, Eq)]
 pub enum Location {
     Endpoint,
     Interior,
@@ -35,7 +35,7 @@ pub enum Meeting {
 }
 
 // Which of the two points are tried in which two great circles meet: the one on the side of the first arc's start alone, as in the source, or both.
-#[derive(Clone, Copy)]
+#[derive(Clone, Copy, Debug, PartialEq, Eq)]
 pub enum Mode {
     Plain,
     Long,
@@ -45,42 +45,21 @@ pub enum Mode {
 fn locate(s: Side, e: Side) -> Location
     ensures { result ≡ Arcs.located s e }
 {
-    match s {
-        Side::Right => Location::Exterior,
-        Side::Left => match e {
-            Side::Left => Location::Exterior,
-            Side::Right => Location::Interior,
-            Side::Collinear => Location::Endpoint,
-        },
-        Side::Collinear => match e {
-            Side::Left => Location::Exterior,
-            Side::Right => Location::Endpoint,
-            Side::Collinear => Location::Endpoint,
-        },
+    match (s, e) {
+        (Side::Right, _) | (_, Side::Left) => Location::Exterior,
+        (Side::Left, Side::Right) => Location::Interior,
+        (Side::Left, Side::Collinear) | (Side::Collinear, _) => Location::Endpoint,
     }
 }
 
 pub fn is_within(l: Location) -> bool
     ensures { result ≡ Arcs.within l }
 {
-    match l {
-        Location::Exterior => false,
-        Location::Endpoint => true,
-        Location::Interior => true,
-    }
-}
-
-fn is_interior(l: Location) -> bool
-    ensures { result ≡ Arcs.interior l }
-{
-    match l {
-        Location::Exterior => false,
-        Location::Endpoint => false,
-        Location::Interior => true,
-    }
+    matches!(l, Location::Endpoint | Location::Interior)
 }
 
 // Of i and its opposite the one on the side of s: the opposite where the product is not above 0.
+#[tactic(auto, unfolding(crate::specs::Arcs::nearer))]
 fn nearer(s: Vec3, i: Vec3) -> Vec3
     ensures { result ≡ Arcs.nearer s i }
 {
@@ -112,37 +91,23 @@ fn beyond_by(mode: Mode, s: f64, e: f64) -> bool
 fn meet_at(p: Vec3, a: Location, b: Location) -> Meeting
     ensures { result ≡ Arcs.meet_at p a b }
 {
-    match a {
-        Location::Exterior => Meeting::Apart,
-        Location::Endpoint => match b {
-            Location::Exterior => Meeting::Apart,
-            Location::Endpoint => Meeting::Touching(p),
-            Location::Interior => Meeting::Touching(p),
-        },
-        Location::Interior => match b {
-            Location::Exterior => Meeting::Apart,
-            Location::Endpoint => Meeting::Touching(p),
-            Location::Interior => Meeting::Crossing(p),
-        },
-    }
-}
-
-fn rank(m: Meeting) -> u8
-    ensures { result ≡ Arcs.rank m }
-{
-    match m {
-        Meeting::Apart => 0,
-        Meeting::Collinear => 0,
-        Meeting::Touching(_) => 1,
-        Meeting::Crossing(_) => 2,
+    match (a, b) {
+        (Location::Exterior, _) | (_, Location::Exterior) => Meeting::Apart,
+        (Location::Interior, Location::Interior) => Meeting::Crossing(p),
+        (Location::Endpoint, _) | (_, Location::Endpoint) => Meeting::Touching(p),
     }
 }
 
 // An interior meeting outranks a touch; of two equal kinds the first is taken.
+#[tactic(auto, unfolding(crate::specs::Arcs::better))]
 fn better(m: Meeting, n: Meeting) -> Meeting
     ensures { result ≡ Arcs.better m n }
 {
-    if rank(m) < rank(n) { n } else { m }
+    match (m, n) {
+        (Meeting::Apart | Meeting::Collinear, Meeting::Touching(_) | Meeting::Crossing(_)) => n,
+        (Meeting::Touching(_), Meeting::Crossing(_)) => n,
+        _ => m,
+    }
 }
 
 impl MinorArc {
@@ -171,6 +136,7 @@ impl MinorArc {
     }
 
     // The side of p against this arc. The source's -1 is right; its 1 is left, and what a NaN product gives too.
+    #[tactic(auto, unfolding(crate::specs::Arcs::arc_side))]
     pub fn side_of(self, p: Vec3) -> Side
         ensures { result ≡ Arcs.arc_side self p }
     {
@@ -182,37 +148,36 @@ impl MinorArc {
     }
 
     // Where a point of this arc's great circle lies: the source's `triage_on_minor_arc`.
+    #[tactic(auto, unfolding(crate::specs::Arcs::location_of))]
     pub fn location(self, v: Vec3) -> Location
         ensures { result ≡ Arcs.location_of self v }
     {
         let s = base::side_of(v, self.normal, self.start);
-        if let Side::Right = s {
+        if s == Side::Right {
             return Location::Exterior;
         }
         locate(s, base::side_of(v, self.normal, self.end))
     }
 
     // Whether p is on this arc, its ends included.
+    #[tactic(auto, unfolding(crate::specs::Arcs::on_arc))]
     pub fn contains_position(self, p: Vec3) -> bool
         ensures { result ≡ Arcs.on_arc self p }
     {
-        if numbers::eq_zero(p.dot_prod(self.normal)) {
-            is_within(self.location(p))
-        } else {
-            false
-        }
+        numbers::eq_zero(p.dot_prod(self.normal)) && is_within(self.location(p))
     }
 
     // What this arc has in p with another, on which p lies at l.
     fn met(self, p: Vec3, l: Location) -> Meeting
         ensures { result ≡ Arcs.meet_at p l (Arcs.location_of self p) }
     {
-        if let Location::Exterior = l {
+        if l == Location::Exterior {
             return Meeting::Apart;
         }
         meet_at(p, l, self.location(p))
     }
 
+    #[tactic(auto, unfolding(crate::specs::Arcs::meeting_in))]
     fn meeting_in(self, o: MinorArc, p: Vec3) -> Meeting
         ensures { result ≡ Arcs.meeting_in self o p }
     {
@@ -220,12 +185,13 @@ impl MinorArc {
     }
 
     // By the points that the mode tries. What is interior to this arc has its opposite exterior to it: then the modes agree.
+    #[tactic(auto, using(crate::proofs::Firsts::first_alone), unfolding(crate::specs::Arcs::meeting_in))]
     fn tried(self, mode: Mode, o: MinorArc, p: Vec3) -> Meeting
         requires { Stored p }
         ensures { result ≡ Arcs.tried mode self o p }
     {
         let l = self.location(p);
-        if is_interior(l) {
+        if l == Location::Interior {
             return meet_at(p, l, o.location(p));
         }
         match mode {
@@ -244,6 +210,7 @@ impl MinorArc {
     }
 
     // Whether of i and its opposite each one that the mode tries lies beyond an end of this arc for sure: one test that settles most of them.
+    #[tactic(auto, unfolding(crate::specs::Arcs::missed))]
     pub fn misses(self, mode: Mode, i: Vec3) -> bool
         ensures { result ≡ Arcs.missed mode self i }
     {
@@ -251,6 +218,7 @@ impl MinorArc {
     }
 
     // The same of the other arc: it settles most of those that are left.
+    #[tactic(auto, unfolding(crate::specs::Arcs::missed_other))]
     pub fn misses_other(self, mode: Mode, o: MinorArc, i: Vec3) -> bool
         ensures { result ≡ Arcs.missed_other mode self o i }
     {
@@ -259,6 +227,7 @@ impl MinorArc {
 
     // The source's `intersection_details`, with the unit vector of the normals' product at hand, as a caller has it who works out many of them first. The
     // great circles meet in a point and its opposite; in plain mode the one on the side of this arc's start is the only candidate.
+    #[tactic(auto, using(crate::proofs::Missing::nearer_candidate_stored), unfolding(crate::specs::Arcs::meeting_of))]
     pub fn meeting_at(self, mode: Mode, o: MinorArc, i: Vec3) -> Meeting
         requires { i ≡ stable_unit self.normal o.normal }
         ensures { result ≡ Arcs.meeting_of mode self o }
@@ -271,20 +240,18 @@ impl MinorArc {
     }
 
     // `intersection` with that vector at hand.
-    pub fn intersection_at(self, mode: Mode, o: MinorArc, i: Vec3) -> Point
+    pub fn intersection_at(self, mode: Mode, o: MinorArc, i: Vec3) -> Option<Vec3>
         requires { i ≡ stable_unit self.normal o.normal }
         ensures { result ≡ Arcs.meeting_point (Arcs.meeting_of mode self o) }
     {
         match self.meeting_at(mode, o, i) {
-            Meeting::Apart => Point::Absent,
-            Meeting::Collinear => Point::Absent,
-            Meeting::Crossing(p) => Point::At(p),
-            Meeting::Touching(p) => Point::At(p),
+            Meeting::Apart | Meeting::Collinear => None,
+            Meeting::Crossing(p) | Meeting::Touching(p) => Some(p),
         }
     }
 
     // The point in which the two arcs meet; none where they are collinear.
-    pub fn intersection(self, mode: Mode, o: MinorArc) -> Point
+    pub fn intersection(self, mode: Mode, o: MinorArc) -> Option<Vec3>
         ensures { result ≡ Arcs.meeting_point (Arcs.meeting_of mode self o) }
     {
         self.intersection_at(mode, o, self.normal.stable_cross_prod_unit(o.normal))

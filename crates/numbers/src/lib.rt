@@ -10,6 +10,7 @@ ghost use Rattle.numbers.specs.Finite.{finite};
 pub const EPSILON: f64 = 0.0000000000000002220446049250313080847263336181640625;
 
 // The size of x. A -0.0 stays as it is, which no comparison sees.
+#[tactic(auto, unfolding(crate::specs::Near::abs))]
 pub fn abs(x: f64) -> f64
     ensures { result ≡ N.abs x }
 {
@@ -45,6 +46,7 @@ pub fn gte(left: f64, right: f64) -> bool
 }
 
 // Whether x is neither NaN nor infinite: the difference from itself is then 0.0, and only then.
+#[tactic(auto, using(crate::proofs::Rounds::itself))]
 pub fn is_finite(x: f64) -> bool
     ensures { result ≡ finite x }
 {

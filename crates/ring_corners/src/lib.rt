@@ -40,6 +40,7 @@ fn corner(list: &[f64], n: usize, reversed: bool, k: usize) -> Vec3
 }
 
 // The index in the list of the edge that, walked the other way, goes from corner k of the reversed list on.
+#[tactic(auto, using(ring_index::proofs::Rounds::under, ring_index::proofs::Rounds::over))]
 fn opposite_source(n: usize, k: usize) -> usize
     requires { (k < n) × (n ≤ 512) }
     ensures { (result ≡ (2 * n - 2 - k) % n) × (result < n) }
@@ -48,6 +49,7 @@ fn opposite_source(n: usize, k: usize) -> usize
 }
 
 // The normal of the edge from corner k on: the edge's own, or of the edge walked the other way its negation.
+#[tactic(auto, unfolding(crate::specs::Corners::normal_at))]
 fn ring_normal(list: &[f64], edges: &[f64], n: usize, reversed: bool, k: usize) -> Vec3
     requires { (k < n) × (n ≤ 512) × (edges.now ≡ edge_normals list.now n) }
     ensures { result ≡ R.normal_at list.now n reversed k }
@@ -60,6 +62,7 @@ fn ring_normal(list: &[f64], edges: &[f64], n: usize, reversed: bool, k: usize) 
 }
 
 // The class code for the product of the previous corner with an edge's normal: 0 convex, 1 reflex, 2 both.
+#[tactic(auto, unfolding(crate::specs::Corners::class_by))]
 fn class_by(product: f64) -> u8
     ensures { result ≡ R.class_by product }
 {
@@ -70,6 +73,7 @@ fn class_by(product: f64) -> u8
 }
 
 // The class of corner k, by the side of the previous edge's start against the edge from here.
+#[tactic(auto, unfolding(crate::specs::Corners::class_at))]
 fn class(list: &[f64], edges: &[f64], n: usize, reversed: bool, k: usize) -> u8
     requires { (k < n) × (n ≤ 512) × (3 * n ≤ length list.now) × (edges.now ≡ edge_normals list.now n) }
     ensures { result ≡ R.class_at list.now n reversed k }
@@ -105,9 +109,7 @@ pub fn write_corners(list: &[f64], n: usize, reversed: bool, out: &mut [f64])
     requires { (n ≤ 512) × (3 * n ≤ length list.now) × (3 * n ≤ length out.old) }
     ensures { out.new ≡ R.ring_of list.now n reversed ++ drop (3 * n) out.old }
 {
-    for k in 0..n {
-        vec3::put(out, k, corner(list, n, reversed, k));
-    }
+    vec3::put_each(out, n, |k| corner(list, n, reversed, k));
 }
 
 // The ring's normals, into the front of a lent list.
@@ -115,7 +117,5 @@ pub fn write_normals(list: &[f64], edges: &[f64], n: usize, reversed: bool, out:
     requires { (n ≤ 512) × (edges.now ≡ edge_normals list.now n) × (3 * n ≤ length out.old) }
     ensures { out.new ≡ R.normals_of list.now n reversed ++ drop (3 * n) out.old }
 {
-    for k in 0..n {
-        vec3::put(out, k, ring_normal(list, edges, n, reversed, k));
-    }
+    vec3::put_each(out, n, |k| ring_normal(list, edges, n, reversed, k));
 }

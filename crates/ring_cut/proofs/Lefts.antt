@@ -1,13 +1,16 @@
 -- What is left of a ring in lent lists: the first m ring numbers, and the classes. Assumes nothing.
 use Prim.Native.Nat.{ℕ, ◌-◌, ◌≤◌, ◌<◌}
-use mathlib.Core.Path.{◌≡◌, refl, ap, ◌∙◌}
+use mathlib.Core.Path.{◌≡◌, refl, sym, ap, ◌∙◌}
 use mathlib.Core.Bool.{Bool, true, false, ◌&&◌}
 use mathlib.Core.List.{List, ◌++◌, append_assoc}
 use native.Mathlib.Omega.{arith}
 use lib.Ieee.{Float}
 use lib.ListN.{length, take, drop, length-append, length-drop}
 use lib.Seq.{take_at, take-length, length-take-le}
+use Rattle.std.specs.Prelude.{Some, None}
+use Rattle.laws.specs.Loop as Loop
 use Rattle.laws.proofs.Loops.{first_at_le}
+use Rattle.laws.proofs.Ranges.{found_some, found_none}
 use Rattle.ring_theory.specs.Ring.{without}
 use Rattle.ring_theory.proofs.Withouts.{length_without}
 use Rattle.ring_ears.specs.Ears.{Lent, convex, ear, Remaining, cut_at, cut_in}
@@ -47,6 +50,13 @@ module _ {ps : List Float} {ids₀ classes₀ ids classes : List ℕ} {m : ℕ} 
   found_convex {i} e ne =
       let h = found e ne in
       is_convex ps (take m ids) classes i (rw e (first_has (ear ps (take m ids) classes) (length (take m ids)) 0 (omega (arith, e, h, g.sized))))
+
+  -- as a search tells it
+  pub lowest_some : {i : ℕ} → Loop.found (lowest ps (take m ids) classes) (length (take m ids)) ≡ Some i → (i ≡ lowest ps (take m ids) classes) × (i ≡ m → ⊥)
+  lowest_some e = let s = found_some e in (sym s.0, λ q. omega (arith, s.1, g.sized, q))
+
+  pub lowest_none : Loop.found (lowest ps (take m ids) classes) (length (take m ids)) ≡ None → m ≡ lowest ps (take m ids) classes
+  lowest_none e = omega (arith, found_none e, first_at_le (ear ps (take m ids) classes) (length (take m ids)) 0, g.sized)
 
   -- what a cut at index i leaves
   module _ {i : ℕ} (h : i < m) (more : 3 < m) {ids' classes' part : List ℕ} (q : ids' ≡ part ++ drop m ids)

@@ -24,13 +24,6 @@ all_cut {ps} {classes} r h =
     let n = size (length classes) in
     counted (cuts (at_lowest ps (length (numbers (length classes)) - 3) (whole_ring classes) (omega (arith, r.least)) h)) ∙ rw n
 
--- in work arrays
-pub started : {classes : List ℕ} (ids work : List ℕ) {ids' work' : List ℕ} → length ids ≡ length classes → length work ≡ length classes
-    → ids' ≡ numbers (length ids) → work' ≡ classes ++ drop (length classes) work → record { ids = ids'; classes = work' } ≡ whole_ring classes
-started {classes} ids work e w p q =
-    let h : length work ≤ length classes = omega arith in
-    rw (p, e, q, drop_of_length-le work h, append-nil)
-
 module _ {ps : List Float} {classes ids work : List ℕ} (w : Work ps classes ids work) {ids' work' : List ℕ} (e : record { ids = ids'; classes = work' } ≡ whole_ring classes) where
   pub ready : Lent ps ids' work' × (3 ≤ length ids') × (length ids' ≡ length classes)
   ready = rw (ap (λ (s : Remaining). s.ids) e, ap (λ (s : Remaining). s.classes) e) (lent w.ring, rw size w.ring.least, size (length classes))

@@ -46,10 +46,9 @@ fn cut_all(
     let mut m = ids.len();
     let mut t = 0;
     while 3 < m {
-        let i = ring_reflex::lowest_ear(ps, &ids[..m], classes, &apart[..k]);
-        if i == m {
+        let Some(i) = ring_reflex::lowest_ear(ps, &ids[..m], classes, &apart[..k]) else {
             return false;
-        }
+        };
         put_ear(&ids[..m], i, triangles, t);
         k = ring_reflex::cut_apart(ps, &mut ids[..m], classes, apart, k, i);
         m -= 1;
@@ -65,7 +64,7 @@ pub fn whole_ring(classes: &[u8], ids: &mut [u16], work: &mut [u8])
     ensures { record { ids = ids.exit.now; classes = work.new } ≡ whole_ring classes.now }
 {
     number(ids);
-    copies::copy_classes(classes, work);
+    copies::copy_front(classes, work);
 }
 
 // `cut_ring` with its work arrays, and room for the triangles until all are cut.
@@ -83,45 +82,27 @@ fn cut_ring_in(
 {
     whole_ring(classes, ids, work);
     if cut_all(ps, ids, work, apart, triangles) {
-        copies::copy_numbers(triangles, out);
+        copies::copy_front(triangles, out);
         return true;
     }
     false
 }
 
-// `cut_ring` with work arrays for every ring.
-fn cut_large(positions: &[f64], classes: &[u8], out: &mut [u16]) -> bool
-    requires { Ring positions.now classes.now × (3 * (length classes.now - 2) ≤ length out.old) }
+// `cut_ring` with work arrays for a ring of at most N corners.
+fn cut_within<const N: usize, const TRIANGLES: usize>(
+    positions: &[f64],
+    classes: &[u8],
+    out: &mut [u16],
+) -> bool
+    requires { Ring positions.now classes.now × (3 * (length classes.now - 2) ≤ length out.old) × (length classes.now ≤ N) × (N ≤ 512) × (TRIANGLES ≡ 3 * (N - 2)) }
     ensures { record { answer = result; out = out.new } ≡ cut_ring_outcome positions.now classes.now out.old }
 {
     let n = classes.len();
     let size = 3 * (n - 2);
-    let mut ids = [0u16; 512];
-    let mut work = [0u8; 512];
-    let mut apart = [0u16; 512];
-    let mut triangles = [0u16; 1530];
-    cut_ring_in(
-        positions,
-        classes,
-        &mut ids[..n],
-        &mut work[..n],
-        &mut apart[..n],
-        &mut triangles[..size],
-        out,
-    )
-}
-
-// `cut_ring` with small work arrays, as clearing large ones would cost a small ring more than its cuts.
-fn cut_small(positions: &[f64], classes: &[u8], out: &mut [u16]) -> bool
-    requires { Ring positions.now classes.now × (3 * (length classes.now - 2) ≤ length out.old) × (length classes.now ≤ 16) }
-    ensures { record { answer = result; out = out.new } ≡ cut_ring_outcome positions.now classes.now out.old }
-{
-    let n = classes.len();
-    let size = 3 * (n - 2);
-    let mut ids = [0u16; 16];
-    let mut work = [0u8; 16];
-    let mut apart = [0u16; 16];
-    let mut triangles = [0u16; 42];
+    let mut ids = [0u16; N];
+    let mut work = [0u8; N];
+    let mut apart = [0u16; N];
+    let mut triangles = [0u16; TRIANGLES];
     cut_ring_in(
         positions,
         classes,
@@ -139,8 +120,9 @@ pub fn cut_ring(positions: &[f64], classes: &[u8], out: &mut [u16]) -> bool
     requires { Ring positions.now classes.now × (3 * (length classes.now - 2) ≤ length out.old) }
     ensures { record { answer = result; out = out.new } ≡ cut_ring_outcome positions.now classes.now out.old }
 {
+    // Clearing large work arrays would cost a small ring more than its cuts.
     if classes.len() <= 16 {
-        return cut_small(positions, classes, out);
+        return cut_within::<16, 42>(positions, classes, out);
     }
-    cut_large(positions, classes, out)
+    cut_within::<512, 1530>(positions, classes, out)
 }

@@ -48,6 +48,7 @@ pub fn triangle_at(ps: &[f64], ids: &[u16], i: usize) -> Triangle
 }
 
 // Whether the corner at index j is of another class than convex, and inside or on an edge of the triangle.
+#[tactic(auto, unfolding(crate::specs::Ears::blocks))]
 fn is_block(ps: &[f64], ids: &[u16], classes: &[u8], t: Triangle, j: usize) -> bool
     requires { (j < length ids.now) × (get_or ids.now j 0 < length classes.now) × (length ps.now ≡ 3 * length classes.now) }
     ensures { result ≡ blocks ps.now ids.now classes.now t j }
@@ -63,15 +64,11 @@ fn is_blocked(ps: &[f64], ids: &[u16], classes: &[u8], t: Triangle) -> bool
     requires { Lent ps.now ids.now classes.now }
     ensures { result ≡ blocked ps.now ids.now classes.now t }
 {
-    for j in 0..ids.len() {
-        if is_block(ps, ids, classes, t, j) {
-            return true;
-        }
-    }
-    false
+    (0..ids.len()).any(|j| is_block(ps, ids, classes, t, j))
 }
 
 // Whether index i is an eligible ear.
+#[tactic(auto, using(crate::proofs::Indexes::indexed), unfolding(crate::specs::Ears::ear))]
 pub fn is_ear(ps: &[f64], ids: &[u16], classes: &[u8], i: usize) -> bool
     requires { Lent ps.now ids.now classes.now × (i < length ids.now) }
     ensures { result ≡ ear ps.now ids.now classes.now i }
@@ -104,6 +101,7 @@ fn class_of(s: Side) -> u8
 }
 
 // The class of the corner at index i. Most are convex by one product.
+#[tactic(auto, using(base::proofs::Surely::surely_right_lem))]
 fn class_at(ps: &[f64], ids: &[u16], i: usize) -> u8
     requires { Indexed ps.now ids.now × (i < length ids.now) × (length ids.now ≤ 512) }
     ensures { result ≡ class_of (turn_of (triangle_at ps.now ids.now i)) }
@@ -122,6 +120,7 @@ fn differ(a: bool, b: bool) -> bool
 }
 
 // Classes the corner at index i afresh; whether it was convex and is not, or the other way round.
+#[tactic(auto, using(crate::proofs::Indexes::indexed), unfolding(crate::specs::Ears::reclassify, crate::specs::Changes::changed))]
 fn reclassify(ps: &[f64], ids: &[u16], classes: &mut [u8], i: usize) -> bool
     requires { Lent ps.now ids.now classes.old × (i < length ids.now) }
     ensures { (classes.new ≡ reclassify ps.now ids.now i classes.old) × (result ≡ changed ps.now ids.now i classes.old) }
@@ -151,6 +150,7 @@ fn reclassify_both(ps: &[f64], ids: &[u16], classes: &mut [u8], i: usize) -> boo
 }
 
 // Cuts the corner at index i off: its number goes, and the last index keeps its own. Whether a neighbour was convex and is not, or the other way round.
+#[tactic(auto, using(ring_theory::proofs::Withouts::taken, crate::proofs::Indexes::lent_without))]
 pub fn cut_told(ps: &[f64], ids: &mut [u16], classes: &mut [u8], i: usize) -> bool
     requires { Lent ps.now ids.old classes.old × (i < length ids.old) }
     ensures { (record { ids = ids.exit.now; classes = classes.new } ≡ cut_in ps.now (record { ids = ids.entry.now; classes = classes.old }) i)

@@ -25,12 +25,7 @@ pub fn any_edge_contains_position(positions: &[f64], normals: &[f64], n: usize, 
     requires { (n ≤ 512) × (3 * n ≤ length positions.now) × (3 * n ≤ length normals.now) }
     ensures { result ≡ E.on_edge positions.now normals.now n p }
 {
-    for i in 0..n {
-        if edge(positions, normals, n, i).contains_position(p) {
-            return true;
-        }
-    }
-    false
+    (0..n).any(|i| edge(positions, normals, n, i).contains_position(p))
 }
 
 // Whether p is one of the corners.
@@ -38,12 +33,7 @@ pub fn has_vertex(positions: &[f64], n: usize, p: Vec3) -> bool
     requires { (n ≤ 512) × (3 * n ≤ length positions.now) }
     ensures { result ≡ E.has_vertex positions.now n p }
 {
-    for i in 0..n {
-        if vec3::at(positions, i).equals(p) {
-            return true;
-        }
-    }
-    false
+    (0..n).any(|i| vec3::at(positions, i).equals(p))
 }
 
 // The products of a normal with those of k edges from `from` on, into a work array.
@@ -51,13 +41,11 @@ fn write_products(normal: Vec3, normals: &[f64], from: usize, k: usize, out: &mu
     requires { (from + k ≤ 512) × (3 * (from + k) ≤ length normals.now) × (length out.old ≡ 3 * k) }
     ensures { out.new ≡ B.products normal normals.now from k }
 {
-    for j in 0..k {
-        vec3::put(
-            out,
-            j,
-            normal.stable_cross_prod(vec3::at(normals, from + j)),
-        );
-    }
+    vec3::put_each(
+        out,
+        k,
+        |j| normal.stable_cross_prod(vec3::at(normals, from + j)),
+    );
 }
 
 // The unit vector of the vector numbered j of a work array.
@@ -74,9 +62,7 @@ pub fn write_units(vs: &[f64], k: usize, out: &mut [f64])
     requires { (k ≤ 512) × (length vs.now ≡ 3 * k) × (length out.old ≡ 3 * k) }
     ensures { out.new ≡ B.units vs.now k }
 {
-    for j in 0..k {
-        vec3::put(out, j, unit(vs, j));
-    }
+    vec3::put_each(out, k, |j| unit(vs, j));
 }
 
 // The candidates of k edges from `from` on; `work` is left with the products. Products and roots each have a loop of their own: the processor then has many roots under way at once.

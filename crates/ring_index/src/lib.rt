@@ -5,6 +5,7 @@ ghost use Rattle.std.specs.Prelude.{◌≡◌, ◌+◌, ◌-◌, ◌%◌, ◌≤
 ghost use Rattle.ring_index.specs.Blocks.{block_end};
 
 // Index n of n is the first.
+#[tactic(auto, using(crate::proofs::Rounds::under, crate::proofs::Rounds::over))]
 pub fn wrapped(k: usize, n: usize) -> usize
     requires { (0 < n) × (k ≤ n) }
     ensures { (result ≡ k % n) × (result < n) }
@@ -21,6 +22,7 @@ pub fn next(i: usize, n: usize) -> usize
 }
 
 // The index before i.
+#[tactic(auto, using(crate::proofs::Rounds::under, crate::proofs::Rounds::over))]
 pub fn previous(i: usize, n: usize) -> usize
     requires { (i < n) × (n ≤ 512) }
     ensures { (result ≡ (i + n - 1) % n) × (result < n) }
@@ -29,6 +31,7 @@ pub fn previous(i: usize, n: usize) -> usize
 }
 
 // Where the block ends that starts at `from`.
+#[tactic(auto, unfolding(crate::specs::Blocks::block_end))]
 pub fn block_end(from: usize, n: usize) -> usize
     requires { (from < n) × (n ≤ 512) }
     ensures { (result ≡ block_end from n) × (from < result) × (result ≤ from + 16) × (result ≤ n) }

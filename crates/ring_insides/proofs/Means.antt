@@ -9,11 +9,8 @@ use lib.ListN.{length}
 use lib.Dec.{ltb}
 use lib.Ieee.{Float}
 use borrow.Author.Tests.{ltb-true, ltb-false}
+use Rattle.std.specs.Prelude.{Option, None, Some}
 use Rattle.vec3.specs.declared.Vec3.{Vec3}
-use Rattle.vec3.specs.declared.Point.{Point}
-use Rattle.vec3.specs.declared.Point.TheVariants.{Absent, At}
-use Rattle.vec3.specs.declared.Insides.{Insides}
-use Rattle.vec3.specs.declared.Insides.TheVariants as I
 use Rattle.vec3.specs.Vec.{pos_at}
 use Rattle.vec3.specs.Points.{triangle_mean}
 use Rattle.ring_theory.specs.Ring.{Below, prev, next, ear_of}
@@ -50,25 +47,25 @@ below_cutting ps n (suc k) s b = go (λ h. below_cutting ps n k (cut_at ps s (lo
     go rest false e = rw (cutting_stuck ps k s refl (ltb-false i (length s.ids) e)) (λ j h. absurd (not-suc-le-zero h))
 
 -- ---- of a point that may be absent, of the means found so far, and of insides
-abbrev pub AtPoint : (Vec3 → Type 0) → Point → Type 0
-AtPoint P Absent = Unit {0}
-AtPoint P (At p) = P p
+abbrev pub AtPoint : (Vec3 → Type 0) → Option Vec3 → Type 0
+AtPoint P None = Unit {0}
+AtPoint P (Some p) = P p
 
 abbrev InFound : (Vec3 → Type 0) → Found → Type 0
 InFound P F.Nothing = Unit {0}
 InFound P (F.One a) = P a
 InFound P (F.Both a b) = P a × P b
 
-abbrev pub InInsides : (Vec3 → Type 0) → Insides → Type 0
-InInsides P I.Absent = Unit {0}
-InInsides P (I.Two a b) = P a × P b
+abbrev pub InInsides : (Vec3 → Type 0) → Option (Vec3 × Vec3) → Type 0
+InInsides P None = Unit {0}
+InInsides P (Some (a, b)) = P a × P b
 
 module _ (P : Vec3 → Type 0) where
-  one_more : (f : Found) (p : Point) → InFound P f → AtPoint P p → InFound P (with_mean f p)
-  one_more f Absent h k = h
-  one_more F.Nothing (At p) h k = k
-  one_more (F.One a) (At p) h k = (h, k)
-  one_more (F.Both a b) (At p) h k = h
+  one_more : (f : Found) (p : Option Vec3) → InFound P f → AtPoint P p → InFound P (with_mean f p)
+  one_more f None h k = h
+  one_more F.Nothing (Some p) h k = k
+  one_more (F.One a) (Some p) h k = (h, k)
+  one_more (F.Both a b) (Some p) h k = h
 
   taken : (f : Found) → InFound P f → InInsides P (insides_from f)
   taken F.Nothing h = tt

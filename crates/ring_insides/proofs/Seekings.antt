@@ -8,14 +8,13 @@ use lib.Ieee.{Float}
 use lib.ListN.{length, take, drop}
 use lib.Seq.{take-length}
 use Rattle.ring_theory.specs.Ring.{without, ear_of}
-use Rattle.vec3.specs.declared.Point.{Point}
-use Rattle.vec3.specs.declared.Point.TheVariants.{Absent, At}
+use Rattle.std.specs.Prelude.{Option, None, Some}
+use Rattle.vec3.specs.declared.Vec3.{Vec3}
 use Rattle.ring_ears.specs.Ears.{Lent, triangle_at, Remaining, cut_at, cut_in}
 use Rattle.ring_reflex.specs.Lowest.{lowest}
 use Rattle.ring_reflex.specs.Apart.{apart_of}
 use Rattle.ring_insides.specs.declared.Found.{Found}
 use Rattle.ring_insides.specs.declared.Found.TheVariants as F
-use Rattle.vec3.specs.declared.Insides.{Insides}
 use Rattle.ring_cut.specs.Cut.{whole_ring, cutting}
 use Rattle.ring_insides.specs.Insides.{with_mean, is_both, mean_of, with_means, means_from, insides_from, insides_of}
 use Rattle.ring_cut.proofs.Steps.{cutting_on, cutting_stuck, cutting_end, whole_three}
@@ -32,9 +31,9 @@ unfolding with_means
 means_ear ps f ids rest i = refl
 
 -- two are enough
-both_stay : (a b : _) (p : Point) → with_mean (F.Both a b) p ≡ F.Both a b
-both_stay a b Absent = refl
-both_stay a b (At p) = refl
+both_stay : (a b : _) (p : Option Vec3) → with_mean (F.Both a b) p ≡ F.Both a b
+both_stay a b None = refl
+both_stay a b (Some p) = refl
 
 enough : (ps : List Float) (a b : _) (l : List ℕ) → with_means ps (F.Both a b) l ≡ F.Both a b
 unfolding with_means
@@ -100,6 +99,6 @@ module _ {ps : List Float} {ids₀ classes₀ apart₀ ids classes apart : List 
       sym (g.rest ∙ rw (none, cutting_end ps (left ids classes m)) last)
 
 -- from the whole ring on
-pub of_whole : (ps : List Float) (classes : List ℕ) {s : Remaining} {f : Found} {r : Insides} → s ≡ whole_ring classes → f ≡ means_from ps s
+pub of_whole : (ps : List Float) (classes : List ℕ) {s : Remaining} {f : Found} {r : Option (Vec3 × Vec3)} → s ≡ whole_ring classes → f ≡ means_from ps s
     → r ≡ insides_from f → r ≡ insides_of ps classes
 of_whole ps classes {s} {f} e p q = q ∙ ap (λ (f : Found). insides_from f) p ∙ ap (λ (s : Remaining). insides_from (means_from ps s)) e

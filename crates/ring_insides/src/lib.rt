@@ -1,13 +1,12 @@
 // Two positions inside a ring, found while it is cut, as sloop.rs has it. Work arrays as in `ring_cut`. Total on every float.
 #![tactic(auto)]
 
-ghost use Rattle.std.specs.Prelude.{◌≡◌, ◌≤◌, ◌<◌, length};
+ghost use Rattle.std.specs.Prelude.{◌≡◌, Some, ◌≤◌, ◌<◌, length};
 ghost use Rattle.ring_ears.specs.Ears.{Lent, Indexed, triangle_at};
-ghost use Rattle.vec3.specs.declared.Point as Point;
 ghost use Rattle.ring_cut.specs.Cut.{Ring, Work};
 ghost use Rattle.ring_insides.specs.Insides.{with_mean, is_both, mean_of, means_from, insides_from, insides_of};
 
-use vec3::{Insides, Point, Vec3};
+use vec3::Vec3;
 
 // The means found so far.
 #[derive(Clone, Copy)]
@@ -18,7 +17,7 @@ enum Found {
 }
 
 fn with_position(f: Found, p: Vec3) -> Found
-    ensures { result ≡ with_mean f (Point.At p) }
+    ensures { result ≡ with_mean f (Some p) }
 {
     match f {
         Found::Nothing => Found::One(p),
@@ -28,37 +27,32 @@ fn with_position(f: Found, p: Vec3) -> Found
 }
 
 // The means found so far, with one more where there is one.
-fn with_mean(f: Found, p: Point) -> Found
+fn with_mean(f: Found, p: Option<Vec3>) -> Found
     ensures { result ≡ with_mean f p }
 {
     match p {
-        Point::Absent => f,
-        Point::At(v) => with_position(f, v),
+        None => f,
+        Some(v) => with_position(f, v),
     }
 }
 
 fn is_both(f: Found) -> bool
     ensures { result ≡ is_both f }
 {
-    match f {
-        Found::Nothing => false,
-        Found::One(a) => false,
-        Found::Both(a, b) => true,
-    }
+    matches!(f, Found::Both(..))
 }
 
-fn insides_from(f: Found) -> Insides
+fn insides_from(f: Found) -> Option<(Vec3, Vec3)>
     ensures { result ≡ insides_from f }
 {
     match f {
-        Found::Nothing => Insides::Absent,
-        Found::One(a) => Insides::Absent,
-        Found::Both(a, b) => Insides::Two(a, b),
+        Found::Nothing | Found::One(_) => None,
+        Found::Both(a, b) => Some((a, b)),
     }
 }
 
 // The mean of the triangle at index i.
-fn mean_at(ps: &[f64], ids: &[u16], i: usize) -> Point
+fn mean_at(ps: &[f64], ids: &[u16], i: usize) -> Option<Vec3>
     requires { Indexed ps.now ids.now × (i < length ids.now) × (length ids.now ≤ 512) }
     ensures { result ≡ mean_of (triangle_at ps.now ids.now i) }
 {
@@ -75,10 +69,9 @@ fn find_means(ps: &[f64], ids: &mut [u16], classes: &mut [u8], apart: &mut [u16]
     let mut m = ids.len();
     let mut f = Found::Nothing;
     while 3 < m {
-        let i = ring_reflex::lowest_ear(ps, &ids[..m], classes, &apart[..count]);
-        if i == m {
+        let Some(i) = ring_reflex::lowest_ear(ps, &ids[..m], classes, &apart[..count]) else {
             return f;
-        }
+        };
         f = with_mean(f, mean_at(ps, &ids[..m], i));
         if is_both(f) {
             return f;
@@ -96,7 +89,7 @@ fn find_insides_in(
     ids: &mut [u16],
     work: &mut [u8],
     apart: &mut [u16],
-) -> Insides
+) -> Option<(Vec3, Vec3)>
     requires { Work ps.now classes.now ids.old work.old × (length apart.old ≡ length classes.now) }
     ensures { result ≡ insides_of ps.now classes.now }
 {
@@ -104,33 +97,15 @@ fn find_insides_in(
     insides_from(find_means(ps, ids, work, apart))
 }
 
-// `find_insides` with work arrays for every ring.
-fn find_large(positions: &[f64], classes: &[u8]) -> Insides
-    requires { Ring positions.now classes.now }
+// `find_insides` with work arrays for a ring of at most N corners.
+fn find_within<const N: usize>(positions: &[f64], classes: &[u8]) -> Option<(Vec3, Vec3)>
+    requires { Ring positions.now classes.now × (length classes.now ≤ N) × (N ≤ 512) }
     ensures { result ≡ insides_of positions.now classes.now }
 {
     let n = classes.len();
-    let mut ids = [0u16; 512];
-    let mut work = [0u8; 512];
-    let mut apart = [0u16; 512];
-    find_insides_in(
-        positions,
-        classes,
-        &mut ids[..n],
-        &mut work[..n],
-        &mut apart[..n],
-    )
-}
-
-// `find_insides` with small work arrays.
-fn find_small(positions: &[f64], classes: &[u8]) -> Insides
-    requires { Ring positions.now classes.now × (length classes.now ≤ 16) }
-    ensures { result ≡ insides_of positions.now classes.now }
-{
-    let n = classes.len();
-    let mut ids = [0u16; 16];
-    let mut work = [0u8; 16];
-    let mut apart = [0u16; 16];
+    let mut ids = [0u16; N];
+    let mut work = [0u8; N];
+    let mut apart = [0u16; N];
     find_insides_in(
         positions,
         classes,
@@ -141,12 +116,12 @@ fn find_small(positions: &[f64], classes: &[u8]) -> Insides
 }
 
 // The means of the first two cuts of a ring that have one, the last triangle included; without two, none.
-pub fn find_insides(positions: &[f64], classes: &[u8]) -> Insides
+pub fn find_insides(positions: &[f64], classes: &[u8]) -> Option<(Vec3, Vec3)>
     requires { Ring positions.now classes.now }
     ensures { result ≡ insides_of positions.now classes.now }
 {
     if classes.len() <= 16 {
-        return find_small(positions, classes);
+        return find_within::<16>(positions, classes);
     }
-    find_large(positions, classes)
+    find_within::<512>(positions, classes)
 }

@@ -11,17 +11,17 @@ ghost use Rattle.ring_pair.specs.Probes as P;
 
 use arc_relations::MinorArcRelation;
 use minor_arc::{MinorArc, Mode};
-use vec3::{Point, Vec3};
+use vec3::Vec3;
 
 // How the edges of two rings stand.
-#[derive(Clone, Copy)]
+#[derive(Clone, Copy, Debug, PartialEq, Eq)]
 pub enum Contact {
     Apart,
     Touched,
     Crossed,
 }
 
-// A point of a ring that is on no edge of another, if there is one.
+// A point of a ring that is on no edge of another, if there is one. It is no Option: loop_relate/specs/Silence tells corners and midpoints apart.
 #[derive(Clone, Copy)]
 pub enum Probe {
     Nowhere,
@@ -36,29 +36,20 @@ fn grade(r: MinorArcRelation) -> Contact
     match r {
         MinorArcRelation::Disjoint => Contact::Apart,
         MinorArcRelation::Intersecting(_) => Contact::Crossed,
-        MinorArcRelation::Touching(_) => Contact::Touched,
-        MinorArcRelation::Overlapping(_) => Contact::Touched,
+        MinorArcRelation::Touching(_) | MinorArcRelation::Overlapping(_) => Contact::Touched,
     }
 }
 
 pub fn is_crossed(k: Contact) -> bool
     ensures { result ≡ C.is_crossed k }
 {
-    match k {
-        Contact::Apart => false,
-        Contact::Touched => false,
-        Contact::Crossed => true,
-    }
+    k == Contact::Crossed
 }
 
 pub fn is_touched(k: Contact) -> bool
     ensures { result ≡ C.is_touched k }
 {
-    match k {
-        Contact::Apart => false,
-        Contact::Touched => true,
-        Contact::Crossed => false,
-    }
+    k == Contact::Touched
 }
 
 // How edges stand of which none cross.
@@ -73,6 +64,7 @@ fn uncrossed(touched: bool) -> Contact
 }
 
 // How an arc relates to edge j of a ring, with its candidate c at hand: an edge whose candidate misses the arc is not read.
+#[tactic(auto, using(arc_relations::proofs::Missing::missed_disjoint), unfolding(ring_edges::specs::Edges::edge_at, ring_edges::specs::Blocks::candidate_at))]
 fn relation_at(
     mode: Mode,
     a: MinorArc,
@@ -85,10 +77,8 @@ fn relation_at(
     requires { (j < m) × (m ≤ 512) × (3 * m ≤ length others.now) × (3 * m ≤ length theirs.now) × (c ≡ B.candidate_at a.normal theirs.now j) }
     ensures { result ≡ relation_of mode a (edge_at others.now theirs.now m j) }
 {
-    if a.misses(mode, c) {
-        if !c.equals(Vec3::ZERO) {
-            return MinorArcRelation::Disjoint;
-        }
+    if a.misses(mode, c) && !c.equals(Vec3::ZERO) {
+        return MinorArcRelation::Disjoint;
     }
     arc_relations::relate_at(mode, a, ring_edges::edge(others, theirs, m, j), c)
 }
@@ -217,6 +207,7 @@ pub fn contact_of(
 }
 
 // Whether corner i of the probe is on no edge of the reference.
+#[tactic(auto, unfolding(crate::specs::Probes::free_corner))]
 fn free_corner(probe: &[f64], positions: &[f64], normals: &[f64], m: usize, i: usize) -> bool
     requires { (3 * i + 2 < length probe.now) × (m ≤ 512) × (3 * m ≤ length positions.now) × (3 * m ≤ length normals.now) }
     ensures { result ≡ P.free_corner probe.now positions.now normals.now m i }
@@ -238,7 +229,8 @@ fn first_corner(probe: &[f64], n: usize, positions: &[f64], normals: &[f64], m: 
 }
 
 // The midpoint of the probe's edge i.
-fn middle(probe: &[f64], n: usize, i: usize) -> Point
+#[tactic(auto, unfolding(crate::specs::Probes::middle_at))]
+fn middle(probe: &[f64], n: usize, i: usize) -> Option<Vec3>
     requires { (i < n) × (n ≤ 512) × (3 * n ≤ length probe.now) }
     ensures { result ≡ P.middle_at probe.now n i }
 {
@@ -246,13 +238,13 @@ fn middle(probe: &[f64], n: usize, i: usize) -> Point
 }
 
 // Whether there is a point, and it is on no edge of the reference.
-fn free_point(at: Point, positions: &[f64], normals: &[f64], m: usize) -> bool
+fn free_point(at: Option<Vec3>, positions: &[f64], normals: &[f64], m: usize) -> bool
     requires { (m ≤ 512) × (3 * m ≤ length positions.now) × (3 * m ≤ length normals.now) }
     ensures { result ≡ P.free_point positions.now normals.now m at }
 {
     match at {
-        Point::Absent => false,
-        Point::At(p) => !ring_edges::any_edge_contains_position(positions, normals, m, p),
+        None => false,
+        Some(p) => !ring_edges::any_edge_contains_position(positions, normals, m, p),
     }
 }
 
@@ -269,16 +261,17 @@ fn first_middle(probe: &[f64], n: usize, positions: &[f64], normals: &[f64], m: 
     n
 }
 
-fn as_middle(at: Point) -> Probe
+fn as_middle(at: Option<Vec3>) -> Probe
     ensures { result ≡ P.as_middle at }
 {
     match at {
-        Point::Absent => Probe::Nowhere,
-        Point::At(p) => Probe::Middle(p),
+        None => Probe::Nowhere,
+        Some(p) => Probe::Middle(p),
     }
 }
 
 // The first free midpoint. It is rare, and so a function of its own.
+#[tactic(auto, unfolding(crate::specs::Probes::middle_probe))]
 fn middle_probe(probe: &[f64], n: usize, positions: &[f64], normals: &[f64], m: usize) -> Probe
     requires { (n ≤ 512) × (3 * n ≤ length probe.now) × (m ≤ 512) × (3 * m ≤ length positions.now) × (3 * m ≤ length normals.now) }
     ensures { result ≡ P.middle_probe probe.now n positions.now normals.now m }
@@ -291,6 +284,7 @@ fn middle_probe(probe: &[f64], n: usize, positions: &[f64], normals: &[f64], m: 
 }
 
 // A point of the probe that is on no edge of the reference: its first free corner, or where there is none its first free midpoint.
+#[tactic(auto, using(crate::proofs::Firsts::asked_is), unfolding(crate::specs::Probes::unambiguous_point))]
 pub fn unambiguous_point(
     probe: &[f64],
     n: usize,

@@ -1,13 +1,11 @@
 -- SCOPE 21, 22, 55: whether a place is inside a ring, by the crossings of an arc from an inside, or, for three corners, by the edges' sides. Definitions only.
-use Rattle.std.specs.Prelude.{ℕ, ◌-◌, Bool, true, false, not, ◌&&◌, ◌||◌, List, eqb, Float, if◌then◌else◌}
+use Rattle.std.specs.Prelude.{ℕ, ◌-◌, Bool, true, false, not, ◌&&◌, ◌||◌, List, Option, None, Some, eqb, Float, if◌then◌else◌}
 use Rattle.std.specs.Float.Ieee.{neg, lt}
 use Rattle.numbers.specs.F64.{epsilon}
 use Rattle.numbers.specs.F64 as F
 use Rattle.numbers.specs.Near.{near}
 use Rattle.laws.specs.Loop.{iterate}
 use Rattle.vec3.specs.declared.Vec3.{Vec3}
-use Rattle.vec3.specs.declared.Point.{Point}
-use Rattle.vec3.specs.declared.Point.TheVariants.{Absent, At}
 use Rattle.vec3.specs.Vec.{origin, same, dot, antipodes, pos_at}
 use Rattle.cap.specs.declared.Cap.{Cap}
 use Rattle.cap.specs.Caps.{contains}
@@ -41,9 +39,9 @@ met_at n i p s =
     else tally (counted (near_by s.previous p) s.even) s.first p
 
 -- where edge i is not met, the previous point is forgotten
-abbrev pub passed : ℕ → ℕ → Point → Crossings → Crossings
-passed n i Absent s = tally s.even s.first origin
-passed n i (At p) s = met_at n i p s
+abbrev pub passed : ℕ → ℕ → Option Vec3 → Crossings → Crossings
+passed n i None s = tally s.even s.first origin
+passed n i (Some p) s = met_at n i p s
 
 -- SCOPE 55: the arc and the edges are arcs of the loop's mode
 abbrev pub pass : Mode → MinorArc → List Float → List Float → ℕ → ℕ → Crossings → Crossings

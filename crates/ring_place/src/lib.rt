@@ -11,7 +11,7 @@ ghost use Rattle.ring_place.specs.Places as P;
 
 use cap::Cap;
 use minor_arc::{MinorArc, Mode};
-use vec3::{Point, Vec3};
+use vec3::Vec3;
 
 // An arc's crossings so far: whether their number is even, where it met the first edge, and where it met the edge before.
 #[derive(Clone, Copy)]
@@ -48,6 +48,7 @@ fn counted(repeated: bool, even: bool) -> bool
 }
 
 // Edge i is met in p.
+#[tactic(auto, unfolding(crate::specs::Places::met_at))]
 fn met(n: usize, i: usize, p: Vec3, s: Crossings) -> Crossings
     requires { i < n }
     ensures { result ≡ P.met_at n i p s }
@@ -65,17 +66,18 @@ fn met(n: usize, i: usize, p: Vec3, s: Crossings) -> Crossings
 }
 
 // Edge i is met, or is not: then the previous point is forgotten.
-fn passed(n: usize, i: usize, at: Point, s: Crossings) -> Crossings
+fn passed(n: usize, i: usize, at: Option<Vec3>, s: Crossings) -> Crossings
     requires { i < n }
     ensures { result ≡ P.passed n i at s }
 {
     match at {
-        Point::Absent => Crossings::new(s.even, s.first, Vec3::ZERO),
-        Point::At(p) => met(n, i, p, s),
+        None => Crossings::new(s.even, s.first, Vec3::ZERO),
+        Some(p) => met(n, i, p, s),
     }
 }
 
 // Where the arc meets edge i, with its candidate c at hand: an edge whose candidate misses the arc is not read.
+#[tactic(auto, using(minor_arc::proofs::Missing::missed_none, minor_arc::proofs::Missing::missed_other_none), unfolding(ring_edges::specs::Edges::edge_at, ring_edges::specs::Blocks::candidate_at))]
 fn point_at(
     mode: Mode,
     arc: MinorArc,
@@ -84,16 +86,16 @@ fn point_at(
     n: usize,
     i: usize,
     c: Vec3,
-) -> Point
+) -> Option<Vec3>
     requires { (i < n) × (n ≤ 512) × (3 * n ≤ length positions.now) × (3 * n ≤ length normals.now) × (c ≡ B.candidate_at arc.normal normals.now i) }
     ensures { result ≡ meeting_point (meeting_of mode arc (E.edge_at positions.now normals.now n i)) }
 {
     if arc.misses(mode, c) {
-        return Point::Absent;
+        return None;
     }
     let edge = ring_edges::edge(positions, normals, n, i);
     if arc.misses_other(mode, edge, c) {
-        return Point::Absent;
+        return None;
     }
     arc.intersection_at(mode, edge, c)
 }
@@ -196,6 +198,7 @@ pub fn crossed_evenly(
 }
 
 // The inside from which an arc goes to p: there is no one arc between antipodes.
+#[tactic(auto, unfolding(crate::specs::Places::from))]
 fn from(a: Vec3, b: Vec3, p: Vec3) -> Vec3
     ensures { result ≡ P.from a b p }
 {
@@ -214,6 +217,7 @@ fn admits(mode: Mode, cap: Cap, p: Vec3) -> bool
 }
 
 // Whether p is inside a ring with a cap and the insides a and b.
+#[tactic(auto, unfolding(crate::specs::Places::inside_by))]
 pub fn inside_by(
     mode: Mode,
     cap: Cap,
@@ -227,13 +231,12 @@ pub fn inside_by(
     requires { (n ≤ 512) × (3 * n ≤ length positions.now) × (3 * n ≤ length normals.now) }
     ensures { result ≡ P.inside_by mode cap a b positions.now normals.now n p }
 {
-    if admits(mode, cap, p) {
-        if p.equals(a) | p.equals(b) {
-            return true;
-        }
-        return crossed_evenly(mode, MinorArc::new(from(a, b, p), p), positions, normals, n);
+    if !admits(mode, cap, p) {
+        return false;
     }
-    false
+    p.equals(a)
+        || p.equals(b)
+        || crossed_evenly(mode, MinorArc::new(from(a, b, p), p), positions, normals, n)
 }
 
 // Whether p is right of edge i by more than 2^-52.
@@ -245,6 +248,7 @@ fn is_within(normals: &[f64], i: usize, p: Vec3) -> bool
 }
 
 // Whether p is inside a ring of three corners: no corner, and right of each edge.
+#[tactic(auto, unfolding(crate::specs::Places::in_triangle))]
 pub fn in_triangle(positions: &[f64], normals: &[f64], p: Vec3) -> bool
     requires { (9 ≤ length positions.now) × (9 ≤ length normals.now) }
     ensures { result ≡ P.in_triangle positions.now normals.now p }

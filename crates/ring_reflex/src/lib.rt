@@ -3,6 +3,7 @@
 #![tactic(auto)]
 
 ghost use Rattle.std.specs.Prelude.{◌≡◌, ◌+◌, ◌*◌, ◌≤◌, ◌<◌, true, length, get_or, take};
+ghost use Rattle.laws.specs.Loop.{found};
 ghost use Rattle.ring_theory.specs.Ring.{Below, without};
 ghost use Rattle.ring_ears.specs.Ears.{Lent, Indexed, convex, ear, cut_in};
 ghost use Rattle.ring_reflex.specs.Lowest.{lowest};
@@ -12,6 +13,7 @@ use ring_ears::Triangle;
 use vec3::Vec3;
 
 // The normal of the triangle's edge from its last corner to its first, turned as the triangle's sides are read.
+#[tactic(auto, unfolding(crate::specs::Apart::far_normal))]
 fn far_normal(t: Triangle) -> Vec3
     ensures { result ≡ far_normal t }
 {
@@ -23,6 +25,7 @@ fn far_normal(t: Triangle) -> Vec3
 }
 
 // Whether the corner at index j is inside the triangle or on an edge of it. Most are beyond its far edge, which one product tells.
+#[tactic(auto, using(crate::proofs::Fars::beyond), unfolding(crate::specs::Apart::holds))]
 fn is_held(ps: &[f64], apart: &[u16], t: Triangle, normal: Vec3, j: usize) -> bool
     requires { (normal ≡ far_normal t) × (j < length apart.now) × (3 * get_or apart.now j 0 + 2 < length ps.now) }
     ensures { result ≡ holds ps.now apart.now t j }
@@ -40,15 +43,11 @@ fn is_one_held(ps: &[f64], apart: &[u16], t: Triangle) -> bool
     ensures { result ≡ held ps.now apart.now t }
 {
     let normal = far_normal(t);
-    for j in 0..apart.len() {
-        if is_held(ps, apart, t, normal, j) {
-            return true;
-        }
-    }
-    false
+    (0..apart.len()).any(|j| is_held(ps, apart, t, normal, j))
 }
 
 // Whether index i is an eligible ear, where `apart` lists the corners that are not convex.
+#[tactic(auto, using(ring_ears::proofs::Indexes::indexed, crate::proofs::Aparts::apart_indexed, crate::proofs::Aparts::apart_few, crate::proofs::Aparts::free, crate::proofs::Aparts::free_none), unfolding(ring_ears::specs::Ears::ear))]
 fn is_free(ps: &[f64], ids: &[u16], classes: &[u8], apart: &[u16], i: usize) -> bool
     requires { Lent ps.now ids.now classes.now × (apart.now ≡ apart_of ids.now classes.now) × (i < length ids.now) }
     ensures { result ≡ ear ps.now ids.now classes.now i }
@@ -62,17 +61,12 @@ fn is_free(ps: &[f64], ids: &[u16], classes: &[u8], apart: &[u16], i: usize) -> 
     false
 }
 
-// The lowest eligible ear, where `apart` lists the corners that are not convex; the length of the list if there is none.
-pub fn lowest_ear(ps: &[f64], ids: &[u16], classes: &[u8], apart: &[u16]) -> usize
+// The lowest eligible ear, if there is one, where `apart` lists the corners that are not convex.
+pub fn lowest_ear(ps: &[f64], ids: &[u16], classes: &[u8], apart: &[u16]) -> Option<usize>
     requires { Lent ps.now ids.now classes.now × (apart.now ≡ apart_of ids.now classes.now) }
-    ensures { result ≡ lowest ps.now ids.now classes.now }
+    ensures { result ≡ found (lowest ps.now ids.now classes.now) (length ids.now) }
 {
-    for i in 0..ids.len() {
-        if is_free(ps, ids, classes, apart, i) {
-            return i;
-        }
-    }
-    ids.len()
+    (0..ids.len()).find(|i| is_free(ps, ids, classes, apart, *i))
 }
 
 // How many are listed with one more, unless that is convex.

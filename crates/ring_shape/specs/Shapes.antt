@@ -1,8 +1,6 @@
 -- SCOPE 23, 55: the shape of a ring: convex, simple, and the same as another. Definitions only.
-use Rattle.std.specs.Prelude.{ℕ, ◌+◌, ◌-◌, ◌%◌, Bool, true, false, not, ◌&&◌, ◌||◌, List, eqb, leb, get_or, Float, if◌then◌else◌}
+use Rattle.std.specs.Prelude.{ℕ, ◌+◌, ◌-◌, ◌%◌, Bool, true, false, not, ◌&&◌, ◌||◌, List, is_some, eqb, leb, get_or, Float, if◌then◌else◌}
 use Rattle.laws.specs.Loop.{any_of}
-use Rattle.vec3.specs.declared.Point.{Point}
-use Rattle.vec3.specs.declared.Point.TheVariants.{Absent, At}
 use Rattle.vec3.specs.Vec.{same, antipodes, pos_at}
 use Rattle.base.specs.declared.Side.{Side}
 use Rattle.base.specs.declared.Side.TheVariants.{Left, Right, Collinear}
@@ -46,13 +44,9 @@ no_circle ps n i = same (pos_at ps i) (pos_at ps ((i + 1) % n)) || antipodes (po
 unfoldable pub any_without_circle : List Float → ℕ → Bool
 any_without_circle ps n = any_of (no_circle ps n) n 0
 
-abbrev pub is_there : Point → Bool
-is_there Absent = false
-is_there (At p) = true
-
 -- SCOPE 55: the edges are arcs of the loop's mode
 unfoldable pub edges_meet : Mode → List Float → List Float → ℕ → ℕ → ℕ → Bool
-edges_meet mode ps ns n i j = is_there (meeting_point (meeting_of mode (edge_at ps ns n i) (edge_at ps ns n j)))
+edges_meet mode ps ns n i j = is_some (meeting_point (meeting_of mode (edge_at ps ns n i) (edge_at ps ns n j)))
 
 -- the edges after the next up to the last, which of the first edge is the one before the last: that one is contiguous with it
 unfoldable pub end_of : ℕ → ℕ → ℕ

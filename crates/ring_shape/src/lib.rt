@@ -7,9 +7,9 @@ ghost use Rattle.ring_shape.specs.Shapes as S;
 
 use base::Side;
 use minor_arc::Mode;
-use vec3::Point;
 
 // The side at corner i, by the corners before and after it.
+#[tactic(auto, unfolding(crate::specs::Shapes::side_at))]
 fn side(positions: &[f64], n: usize, i: usize) -> Side
     requires { (i < n) × (n ≤ 512) × (3 * n ≤ length positions.now) }
     ensures { result ≡ S.side_at positions.now n i }
@@ -35,29 +35,20 @@ fn any_side(left: bool, positions: &[f64], n: usize) -> bool
     requires { (n ≤ 512) × (3 * n ≤ length positions.now) }
     ensures { result ≡ S.any_side left positions.now n }
 {
-    for i in 0..n {
-        if is_to(left, side(positions, n, i)) {
-            return true;
-        }
-    }
-    false
+    (0..n).any(|i| is_to(left, side(positions, n, i)))
 }
 
 // Whether the ring turns one way only; one of three corners does.
+#[tactic(auto, unfolding(crate::specs::Shapes::convex))]
 pub fn is_convex(positions: &[f64], n: usize) -> bool
     requires { (n ≤ 512) × (3 * n ≤ length positions.now) }
     ensures { result ≡ S.convex positions.now n }
 {
-    if n <= 3 {
-        return true;
-    }
-    if any_side(true, positions, n) {
-        return !any_side(false, positions, n);
-    }
-    true
+    n <= 3 || !(any_side(true, positions, n) && any_side(false, positions, n))
 }
 
 // Whether corner i and the next lie on more than one great circle: they are equal or antipodes.
+#[tactic(auto, unfolding(crate::specs::Shapes::no_circle))]
 fn no_circle(positions: &[f64], n: usize, i: usize) -> bool
     requires { (i < n) × (n ≤ 512) × (3 * n ≤ length positions.now) }
     ensures { result ≡ S.no_circle positions.now n i }
@@ -71,35 +62,22 @@ fn any_without_circle(positions: &[f64], n: usize) -> bool
     requires { (n ≤ 512) × (3 * n ≤ length positions.now) }
     ensures { result ≡ S.any_without_circle positions.now n }
 {
-    for i in 0..n {
-        if no_circle(positions, n, i) {
-            return true;
-        }
-    }
-    false
-}
-
-fn is_there(at: Point) -> bool
-    ensures { result ≡ S.is_there at }
-{
-    match at {
-        Point::Absent => false,
-        Point::At(_) => true,
-    }
+    (0..n).any(|i| no_circle(positions, n, i))
 }
 
 // Whether edges i and j meet in a point; collinear ones do not.
+#[tactic(auto, unfolding(crate::specs::Shapes::edges_meet))]
 fn edges_meet(mode: Mode, positions: &[f64], normals: &[f64], n: usize, i: usize, j: usize) -> bool
     requires { (i < n) × (j < n) × (n ≤ 512) × (3 * n ≤ length positions.now) × (3 * n ≤ length normals.now) }
     ensures { result ≡ S.edges_meet mode positions.now normals.now n i j }
 {
-    is_there(ring_edges::edge(positions, normals, n, i).intersection(
-        mode,
-        ring_edges::edge(positions, normals, n, j),
-    ))
+    let one = ring_edges::edge(positions, normals, n, i);
+    let other = ring_edges::edge(positions, normals, n, j);
+    one.intersection(mode, other).is_some()
 }
 
 // Where the edges end that are not contiguous with edge i: the last edge is contiguous with the first.
+#[tactic(auto, unfolding(crate::specs::Shapes::end_of))]
 fn end_of(n: usize, i: usize) -> usize
     requires { (3 < n) × (i + 1 < n) }
     ensures { (result ≡ S.end_of n i) × (i + 2 ≤ result) × (result ≤ n) }
@@ -112,29 +90,18 @@ fn meets_later(mode: Mode, positions: &[f64], normals: &[f64], n: usize, i: usiz
     requires { (3 < n) × (i + 1 < n) × (n ≤ 512) × (3 * n ≤ length positions.now) × (3 * n ≤ length normals.now) }
     ensures { result ≡ S.meets_later mode positions.now normals.now n i }
 {
-    let end = end_of(n, i);
-    for j in i + 2..end {
-        if edges_meet(mode, positions, normals, n, i, j) {
-            return true;
-        }
-    }
-    false
+    (i + 2..end_of(n, i)).any(|j| edges_meet(mode, positions, normals, n, i, j))
 }
 
 fn any_meets_later(mode: Mode, positions: &[f64], normals: &[f64], n: usize) -> bool
     requires { (3 < n) × (n ≤ 512) × (3 * n ≤ length positions.now) × (3 * n ≤ length normals.now) }
     ensures { result ≡ S.any_meets_later mode positions.now normals.now n }
 {
-    let end = n - 1;
-    for i in 0..end {
-        if meets_later(mode, positions, normals, n, i) {
-            return true;
-        }
-    }
-    false
+    (0..n - 1).any(|i| meets_later(mode, positions, normals, n, i))
 }
 
 // Whether each two neighbours have one great circle, and no two edges that are not contiguous meet.
+#[tactic(auto, unfolding(crate::specs::Shapes::simple))]
 pub fn is_simple(mode: Mode, positions: &[f64], normals: &[f64], n: usize) -> bool
     requires { (n ≤ 512) × (3 * n ≤ length positions.now) × (3 * n ≤ length normals.now) }
     ensures { result ≡ S.simple mode positions.now normals.now n }
@@ -142,13 +109,11 @@ pub fn is_simple(mode: Mode, positions: &[f64], normals: &[f64], n: usize) -> bo
     if any_without_circle(positions, n) {
         return false;
     }
-    if n <= 3 {
-        return true;
-    }
-    !any_meets_later(mode, positions, normals, n)
+    n <= 3 || !any_meets_later(mode, positions, normals, n)
 }
 
 // Whether corner i of one ring and corner j of the other have one position and one class.
+#[tactic(auto, unfolding(crate::specs::Shapes::agree))]
 fn agree(
     positions: &[f64],
     classes: &[u8],
@@ -172,6 +137,7 @@ fn wrap(k: usize, n: usize) -> usize
 }
 
 // The other ring's corner beside corner i, forward from the offset or backward.
+#[tactic(auto, unfolding(crate::specs::Shapes::beside))]
 fn beside(back: bool, n: usize, offset: usize, i: usize) -> usize
     requires { (i < n) × (offset < n) × (n ≤ 512) }
     ensures { (result ≡ S.beside back n offset i) × (result < n) }
@@ -196,19 +162,16 @@ fn all_agree(
     requires { (offset < n) × (n ≤ 512) × (3 * n ≤ length positions.now) × (n ≤ length classes.now) × (3 * n ≤ length others.now) × (n ≤ length theirs.now) }
     ensures { result ≡ S.all_agree back positions.now classes.now others.now theirs.now n offset }
 {
-    for i in 0..n {
-        if !agree(
+    (0..n).all(|i| {
+        agree(
             positions,
             classes,
             others,
             theirs,
             i,
             beside(back, n, offset, i),
-        ) {
-            return false;
-        }
-    }
-    true
+        )
+    })
 }
 
 fn same_from(
@@ -222,10 +185,8 @@ fn same_from(
     requires { (offset < n) × (n ≤ 512) × (3 * n ≤ length positions.now) × (n ≤ length classes.now) × (3 * n ≤ length others.now) × (n ≤ length theirs.now) }
     ensures { result ≡ S.same_from positions.now classes.now others.now theirs.now n offset }
 {
-    if all_agree(false, positions, classes, others, theirs, n, offset) {
-        return true;
-    }
-    all_agree(true, positions, classes, others, theirs, n, offset)
+    all_agree(false, positions, classes, others, theirs, n, offset)
+        || all_agree(true, positions, classes, others, theirs, n, offset)
 }
 
 // Whether two rings of n corners are one ring, from another corner on or walked the other way.
@@ -239,10 +200,5 @@ pub fn same_rings(
     requires { (n ≤ 512) × (3 * n ≤ length positions.now) × (n ≤ length classes.now) × (3 * n ≤ length others.now) × (n ≤ length theirs.now) }
     ensures { result ≡ S.same_rings positions.now classes.now others.now theirs.now n }
 {
-    for offset in 0..n {
-        if same_from(positions, classes, others, theirs, n, offset) {
-            return true;
-        }
-    }
-    false
+    (0..n).any(|offset| same_from(positions, classes, others, theirs, n, offset))
 }

@@ -29,6 +29,7 @@ fn collinear(s: Side) -> u8
 }
 
 // Whether none of the three is right and at most one is collinear.
+#[tactic(auto, unfolding(crate::specs::Inside::fits))]
 fn sides_fit(a: Side, b: Side, c: Side) -> bool
     ensures { result ≡ fits a b c }
 {
@@ -39,6 +40,7 @@ fn sides_fit(a: Side, b: Side, c: Side) -> bool
 }
 
 // The side of p against the edge from u to v, whose ends are exchanged where the triangle is clockwise.
+#[tactic(auto, unfolding(crate::specs::Inside::edge_side))]
 fn clockwise_side(clockwise: bool, p: Vec3, u: Vec3, v: Vec3) -> Side
     ensures { result ≡ edge_side clockwise p u v }
 {
@@ -49,6 +51,7 @@ fn clockwise_side(clockwise: bool, p: Vec3, u: Vec3, v: Vec3) -> Side
     }
 }
 
+#[tactic(auto, unfolding(crate::specs::Inside::fits_edges))]
 fn edges_fit(clockwise: bool, p: Vec3, a: Vec3, b: Vec3, c: Vec3) -> bool
     ensures { result ≡ fits_edges clockwise p a b c }
 {
@@ -58,6 +61,7 @@ fn edges_fit(clockwise: bool, p: Vec3, a: Vec3, b: Vec3, c: Vec3) -> bool
     sides_fit(side1, side2, side3)
 }
 
+#[tactic(auto, unfolding(crate::specs::Inside::is_corner))]
 fn is_corner(p: Vec3, a: Vec3, b: Vec3, c: Vec3) -> bool
     ensures { result ≡ is_corner p a b c }
 {
@@ -65,6 +69,7 @@ fn is_corner(p: Vec3, a: Vec3, b: Vec3, c: Vec3) -> bool
 }
 
 // Whether p is inside the triangle (a, b, c) or on an edge of it; a corner is not.
+#[tactic(auto, unfolding(crate::specs::Inside::inside_or_edge))]
 pub fn inside_or_edge(p: Vec3, a: Vec3, b: Vec3, c: Vec3) -> bool
     ensures { result ≡ inside_or_edge p a b c }
 {

@@ -12,6 +12,7 @@ use angle::Angle;
 use vec3::Vec3;
 
 // The product of which the normal of the edge from position i to the next is the unit vector.
+#[tactic(auto, unfolding(crate::specs::Blocks::product_at))]
 fn product(list: &[f64], n: usize, i: usize) -> Vec3
     requires { (i < n) × (n ≤ 512) × (3 * n ≤ length list.now) }
     ensures { result ≡ B.product_at list.now n i }
@@ -19,7 +20,7 @@ fn product(list: &[f64], n: usize, i: usize) -> Vec3
     vec3::at(list, i).stable_cross_prod(vec3::at(list, ring_index::next(i, n)))
 }
 
-// The products of all edges, into a work array.
+// The products of all edges, into a work array. A loop of its own: by `vec3::put_each` it took 11 instructions an edge more (callgrind).
 fn write_products(list: &[f64], n: usize, work: &mut [f64])
     requires { (n ≤ 512) × (3 * n ≤ length list.now) × (length work.old ≡ 3 * n) }
     ensures { work.new ≡ B.products list.now n }
@@ -30,6 +31,7 @@ fn write_products(list: &[f64], n: usize, work: &mut [f64])
 }
 
 // The normal out of the product of an edge from u: its unit vector, or `orthogonal` where that is exactly zero.
+#[tactic(auto, unfolding(crate::specs::Blocks::normal_of))]
 fn normal_of(u: Vec3, p: Vec3) -> Vec3
     ensures { result ≡ B.normal_of u p }
 {
@@ -42,6 +44,7 @@ fn normal_of(u: Vec3, p: Vec3) -> Vec3
 }
 
 // The normal of edge i, out of the product that the work array still holds there.
+#[tactic(auto, using(crate::proofs::Edges::normal_of_product))]
 fn edge_normal(list: &[f64], work: &[f64], n: usize, i: usize) -> Vec3
     requires { (i < n) × (n ≤ 512) × (3 * n ≤ length list.now) × (length work.now ≡ 3 * n) × (raw_at work.now i ≡ B.product_at list.now n i) }
     ensures { result ≡ T.edge_normal list.now n i }
@@ -70,6 +73,7 @@ pub fn write_edge_normals(list: &[f64], n: usize, work: &mut [f64])
 }
 
 // The normal of edge i, out of the work array. The list stands here for what the array holds.
+#[tactic(auto, using(crate::proofs::Edges::edges_size, crate::proofs::Edges::edge_at_lem))]
 pub fn edge(list: &[f64], edges: &[f64], n: usize, i: usize) -> Vec3
     requires { (i < n) × (n ≤ 512) × (edges.now ≡ T.edge_normals list.now n) }
     ensures { result ≡ T.edge_normal list.now n i }
@@ -78,6 +82,7 @@ pub fn edge(list: &[f64], edges: &[f64], n: usize, i: usize) -> Vec3
 }
 
 // The sine of the turn from edge i to the next edge.
+#[tactic(auto, unfolding(crate::specs::Blocks::sine_at))]
 fn sine(list: &[f64], edges: &[f64], n: usize, i: usize) -> f64
     requires { (i < n) × (n ≤ 512) × (3 * n ≤ length list.now) × (edges.now ≡ T.edge_normals list.now n) }
     ensures { result ≡ B.sine_at list.now n i }
@@ -101,6 +106,7 @@ fn write_sines(list: &[f64], edges: &[f64], n: usize, from: usize, k: usize, out
 }
 
 // The cosine of the turn from edge i to the next edge.
+#[tactic(auto, unfolding(crate::specs::Blocks::cosine_at))]
 fn cosine(list: &[f64], edges: &[f64], n: usize, i: usize) -> f64
     requires { (i < n) × (n ≤ 512) × (edges.now ≡ T.edge_normals list.now n) }
     ensures { result ≡ B.cosine_at list.now n i }
@@ -128,6 +134,7 @@ fn write_proportions(
 }
 
 // The arctangents that the turns of k edges from `from` on are made of, with room for the proportions.
+#[tactic(auto, using(crate::proofs::Edges::acutes_of))]
 fn write_parts(
     list: &[f64],
     edges: &[f64],
@@ -146,6 +153,7 @@ fn write_parts(
 }
 
 // The turn from edge i to the next edge, out of the work arrays of those from `from` up to `to`.
+#[tactic(auto, using(crate::proofs::Edges::row_size, crate::proofs::Edges::row_held, crate::proofs::Edges::turn_by))]
 fn turn(
     list: &[f64],
     edges: &[f64],
@@ -207,6 +215,7 @@ fn add_with(
 }
 
 // A block of turns: roots, arctangents and the sum each have a loop of their own, so that the processor has many under way at once.
+#[tactic(auto, using(laws::proofs::Copies::first_of_lem))]
 fn add_block(list: &[f64], edges: &[f64], n: usize, from: usize, to: usize, before: Angle) -> Angle
     requires { (from ≤ to) × (to ≤ from + 16) × (to ≤ n) × (n ≤ 512) × (3 * n ≤ length list.now) × (edges.now ≡ T.edge_normals list.now n) }
     ensures { result ≡ iterate (T.plus_turn list.now n) (to - from) from before }

@@ -14,7 +14,7 @@ use Rattle.loop_ask.specs.Questions.{query_fault, place_answer}
 use Rattle.loop_distances.specs.Distances as Far
 use Rattle.scene_store.specs.declared.Area.{Area}
 use Rattle.scene_store.specs.Store.{corners, codes, place_in}
-use Rattle.scene_far.specs.declared.Said.TheVariants as Said
+use Rattle.scene_far.specs.Said as Said
 use Rattle.scene_far.specs.Far.{far_in, place_said, far_said, said_in, SameRefusals}
 
 -- by the number of the fault, 0 for none

@@ -2,25 +2,25 @@
 #![tactic(auto)]
 
 ghost use Rattle.std.specs.Prelude.{◌≡◌};
-ghost use Rattle.loop_ask.specs.Answers.{told_placed};
+ghost use Rattle.loop_ask.specs.Answers.{place_code, told_placed};
 ghost use Rattle.loop_distances.specs.Distances.{told_distance};
 ghost use Rattle.scene_store.specs.Store as St;
 ghost use Rattle.scene_far.specs.Far as F;
 
-use loop_ask::Placed;
-use loop_distances::Distance;
+use chord_length::ChordLength;
+use judge::Refusal;
+use loop_ask::Place;
 use scene_lines::Line;
 use scene_store::Area;
 use vec3::Vec3;
 
-// What an area says of a position: a refusal, or the line.
-#[derive(Clone, Copy)]
-pub enum Said {
-    Refused(u8),
-    Line(Line),
-}
-
-fn far_in(a: Area, positions: &[f64], normals: &[f64], classes: &[u8], p: Vec3) -> Distance
+fn far_in(
+    a: Area,
+    positions: &[f64],
+    normals: &[f64],
+    classes: &[u8],
+    p: Vec3,
+) -> Result<ChordLength, Refusal>
     requires { St.Lies a positions.now normals.now classes.now }
     ensures { told_distance result ≡ F.far_in a positions.now normals.now classes.now p }
 {
@@ -38,29 +38,33 @@ fn far_in(a: Area, positions: &[f64], normals: &[f64], classes: &[u8], p: Vec3) 
     )
 }
 
-// The line of a place, by its answer's number.
-fn place_said(number: usize, placed: Placed) -> Said
-    ensures { result ≡ F.place_said number (told_placed placed) }
+// The number of a place's answer.
+fn place_number(place: Place) -> u8
+    ensures { result ≡ place_code place }
 {
-    match placed {
-        Placed::Refused(k) => Said::Refused(k),
-        Placed::Outside => Said::Line(Line::Place(number, 0)),
-        Placed::Inside => Said::Line(Line::Place(number, 1)),
-        Placed::Mute => Said::Line(Line::Place(number, 2)),
+    match place {
+        Place::Outside => 0,
+        Place::Inside => 1,
+        Place::Mute => 2,
     }
+}
+
+// The line of a place, by its answer's number.
+fn place_said(number: usize, placed: Result<Place, Refusal>) -> Result<Line, Refusal>
+    ensures { F.told_said result ≡ F.place_said number (told_placed placed) }
+{
+    Ok(Line::Place(number, place_number(placed?)))
 }
 
 // The line of a far, by the bits of its squared chord.
-fn far_said(number: usize, distance: Distance) -> Said
-    ensures { result ≡ F.far_said number (told_distance distance) }
+fn far_said(number: usize, distance: Result<ChordLength, Refusal>) -> Result<Line, Refusal>
+    ensures { F.told_said result ≡ F.far_said number (told_distance distance) }
 {
-    match distance {
-        Distance::Refused(k) => Said::Refused(k),
-        Distance::Chord(c) => Said::Line(Line::Far(number, wire::to_bits(c.0))),
-    }
+    Ok(Line::Far(number, wire::to_bits(distance?.0)))
 }
 
 // What the area with a number says of a position: how `far` it is, or where it lies.
+#[tactic(auto, unfolding(crate::specs::Far::said_in))]
 pub fn said_in(
     far: bool,
     number: usize,
@@ -69,9 +73,9 @@ pub fn said_in(
     normals: &[f64],
     classes: &[u8],
     p: Vec3,
-) -> Said
+) -> Result<Line, Refusal>
     requires { St.Lies a positions.now normals.now classes.now }
-    ensures { result ≡ F.said_in far number a positions.now normals.now classes.now p }
+    ensures { F.told_said result ≡ F.said_in far number a positions.now normals.now classes.now p }
 {
     if far {
         return far_said(number, far_in(a, positions, normals, classes, p));

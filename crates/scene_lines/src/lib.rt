@@ -2,14 +2,13 @@
 #![tactic(auto)]
 
 ghost use Rattle.std.specs.Prelude.{◌≡◌, ◌+◌, ◌≤◌, length};
-ghost use Rattle.loop_header.specs.Loops.{is_absent, mute};
+ghost use Rattle.loop_header.specs.Loops.{mute};
 ghost use Rattle.scene_words.specs.Words.{Wrote};
 ghost use Rattle.scene_lines.specs.Lines as L;
 
 use loop_header::Header;
-use vec3::Insides;
 
-// What a line says. An answer and a relation go by their numbers, a squared chord by its bits; the last line of a scene is `End`, `Refused` (the number, the offsets of the record and of
+// What a line says. An answer, a relation and a refusal go by their numbers, as the definitions tell them, a squared chord by its bits; the last line of a scene is `End`, `Refused` (the number, the offsets of the record and of
 // the field) or `RefusedAt`, which adds the index of a position in its list.
 #[derive(Clone, Copy)]
 pub enum Line {
@@ -22,23 +21,14 @@ pub enum Line {
     RefusedAt(u8, usize, usize, usize),
 }
 
-fn is_absent(i: Insides) -> bool
-    ensures { result ≡ is_absent i }
-{
-    match i {
-        Insides::Absent => true,
-        Insides::Two(_, _) => false,
-    }
-}
-
 fn is_mute(h: Header) -> bool
     ensures { result ≡ mute h }
 {
-    let insides = h.insides;
-    (3 < h.count) & is_absent(insides)
+    (3 < h.count) & h.insides.is_none()
 }
 
 // The second half of an area line: state and marks.
+#[tactic(auto, using(scene_words::proofs::Writes::then))]
 fn put_marks(out: &mut [u8], at: usize, h: Header) -> usize
     requires { at + 23 ≤ length out.old }
     ensures wrote { Wrote out.old at (L.marks_words h) out.new result }
@@ -150,6 +140,7 @@ fn put_refused_at(
 }
 
 // Writes a line, of at most 45 bytes.
+#[tactic(auto, unfolding(crate::specs::Lines::room_of))]
 pub fn put_line(out: &mut [u8], at: usize, line: Line) -> usize
     requires { at + 45 ≤ length out.old }
     ensures wrote { Wrote out.old at (L.line_text line) out.new result }

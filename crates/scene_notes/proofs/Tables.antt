@@ -17,8 +17,7 @@ use Rattle.scene_store.specs.Store.{nobody}
 use Rattle.scene_records.specs.declared.Fault.{Fault}
 use Rattle.scene_records.specs.declared.Fault.TheVariants.{NoNumber, Repeated, NotMet, ManyAreas, ManyPositions}
 use Rattle.scene_notes.specs.declared.Notes.{Notes}
-use Rattle.scene_notes.specs.declared.Judged.{Judged}
-use Rattle.scene_notes.specs.declared.Judged.TheVariants.{Fine, Bad}
+use Rattle.scene_notes.specs.Judged.{Judged, Fine, Bad}
 use Rattle.scene_notes.specs.Noted.{index_of, Kept, areas_of, no_areas, fresh_notes, passed_notes, Addable, added_notes, judge_area, first_zero, is_unmet, is_past, judge_numbers, judge_named}
 
 -- within a list it is all one what stands past its end

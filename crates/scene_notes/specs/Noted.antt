@@ -6,8 +6,7 @@ use Rattle.scene_records.specs.declared.Fault.TheVariants.{NoNumber, Repeated, N
 use Rattle.scene_records.specs.Records.{length_field, body_field, number_field}
 use Rattle.scene_store.specs.declared.Area.{Area}
 use Rattle.scene_notes.specs.declared.Notes.{Notes}
-use Rattle.scene_notes.specs.declared.Judged.{Judged}
-use Rattle.scene_notes.specs.declared.Judged.TheVariants.{Fine, Bad}
+use Rattle.scene_notes.specs.Judged.{Judged, Fine, Bad}
 use Rattle.scene_store.specs.Store.{nobody}
 
 -- the offset of the next record, how many were read, the areas met, the positions given, and the store with the corners used of it

@@ -3,6 +3,7 @@
 
 ghost use Rattle.std.specs.Prelude.{◌≡◌, ◌+◌, ◌*◌, ◌≤◌, ◌<◌, length, get_or};
 ghost use Rattle.scene_store.specs.Store as St;
+ghost use Rattle.scene_notes.specs.Judged as J;
 ghost use Rattle.scene_notes.specs.Noted as N;
 
 use minor_arc::Mode;
@@ -20,13 +21,6 @@ pub struct Notes {
     pub areas: [Area; 16],
 }
 
-// Whether a record may be taken, or its fault and that field's offset.
-#[derive(Clone, Copy)]
-pub enum Judged {
-    Fine,
-    Bad(Fault, usize),
-}
-
 // The index of a number among the areas met, or how many there are.
 pub fn index_of(c: Notes, number: usize) -> usize
     requires { N.Kept c }
@@ -35,12 +29,10 @@ pub fn index_of(c: Notes, number: usize) -> usize
 {
     let met = c.met;
     let areas = c.areas;
-    for i in 0..met {
-        if areas[i].number == number {
-            return i;
-        }
-    }
-    met
+    areas[..met]
+        .iter()
+        .position(|a| a.number == number)
+        .unwrap_or(met)
 }
 
 pub fn area_of(c: Notes, i: usize) -> Area
@@ -52,6 +44,7 @@ pub fn area_of(c: Notes, i: usize) -> Area
 }
 
 // A scene's notes before its first record.
+#[tactic(auto, unfolding(crate::specs::Noted::no_areas))]
 pub fn fresh() -> Notes
     ensures { result ≡ N.fresh_notes }
 {
@@ -105,65 +98,67 @@ pub fn added(c: Notes, a: Area, count: usize) -> Notes
     }
 }
 
-// Faults of an area record, ahead of the builder's refusals.
-pub fn judge_area(c: Notes, number: usize, count: usize) -> Judged
+// The fault of an area record and that field's offset, ahead of the builder's refusals.
+#[tactic(auto, using(crate::proofs::Tables::met_count), unfolding(crate::specs::Noted::judge_area))]
+pub fn judge_area(c: Notes, number: usize, count: usize) -> Result<(), (Fault, usize)>
     requires { N.Kept c × (c.at ≤ 65536) × (c.given ≤ 1024) × (count ≤ 65536) }
-    ensures { result ≡ N.judge_area (N.areas_of c) c.given c.at number count }
+    ensures { J.told_judged result ≡ N.judge_area (N.areas_of c) c.given c.at number count }
 {
     let field = c.at + 6;
     if number == 0 {
-        return Judged::Bad(Fault::NoNumber, field);
+        return Err((Fault::NoNumber, field));
     }
     if index_of(c, number) < c.met {
-        return Judged::Bad(Fault::Repeated, field);
+        return Err((Fault::Repeated, field));
     }
     if 16 <= c.met {
-        return Judged::Bad(Fault::ManyAreas, field);
+        return Err((Fault::ManyAreas, field));
     }
     if 1024 < c.given + count {
-        return Judged::Bad(Fault::ManyPositions, c.at);
+        return Err((Fault::ManyPositions, c.at));
     }
-    Judged::Fine
+    Ok(())
 }
 
 // The index of the first of a record's numbers that is zero, or how many there are.
 fn first_zero(numbers: &[usize]) -> usize
     ensures { result ≡ N.first_zero numbers.now }
 {
-    for i in 0..numbers.len() {
-        if numbers[i] == 0 {
-            return i;
-        }
-    }
-    numbers.len()
+    numbers
+        .iter()
+        .position(|n| *n == 0)
+        .unwrap_or(numbers.len())
 }
 
 // The same of the first that no area met has: its index among them is past the last.
 fn first_unmet(met: usize, indexes: &[usize]) -> usize
     ensures { result ≡ N.first_past met indexes.now }
 {
-    for i in 0..indexes.len() {
-        if met <= indexes[i] {
-            return i;
-        }
-    }
-    indexes.len()
+    indexes
+        .iter()
+        .position(|i| met <= *i)
+        .unwrap_or(indexes.len())
 }
 
 // Faults of the numbers that a place or a pair names, by their indexes among the areas met: of all of them zero comes before not met. The notes stay
 // with the caller, since by value they would be copied.
-pub fn judge_numbers(at: usize, met: usize, numbers: &[usize], indexes: &[usize]) -> Judged
+pub fn judge_numbers(
+    at: usize,
+    met: usize,
+    numbers: &[usize],
+    indexes: &[usize],
+) -> Result<(), (Fault, usize)>
     requires { (at ≤ 65536) × (length numbers.now ≤ 2) × (length indexes.now ≡ length numbers.now) }
-    ensures { result ≡ N.judge_numbers (N.is_past met indexes.now) at numbers.now }
+    ensures { J.told_judged result ≡ N.judge_numbers (N.is_past met indexes.now) at numbers.now }
 {
     let field = at + 6;
     let zero = first_zero(numbers);
     if zero < numbers.len() {
-        return Judged::Bad(Fault::NoNumber, field + 2 * zero);
+        return Err((Fault::NoNumber, field + 2 * zero));
     }
     let unmet = first_unmet(met, indexes);
     if unmet < numbers.len() {
-        return Judged::Bad(Fault::NotMet, field + 2 * unmet);
+        return Err((Fault::NotMet, field + 2 * unmet));
     }
-    Judged::Fine
+    Ok(())
 }

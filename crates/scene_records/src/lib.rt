@@ -7,7 +7,7 @@ ghost use Rattle.judge.specs.Judge.{first_refused};
 ghost use Rattle.scene_records.specs.Records as R;
 
 // What a record is refused for, in the order of the numbers 20 to 27.
-#[derive(Clone, Copy)]
+#[derive(Clone, Copy, Debug, PartialEq, Eq)]
 pub enum Fault {
     CutShort,
     UnknownKind,
@@ -19,24 +19,26 @@ pub enum Fault {
     ManyPositions,
 }
 
-// The number of each fault.
-pub fn fault_number(f: Fault) -> u8
-    ensures { result ≡ R.fault_number f }
-{
-    match f {
-        Fault::CutShort => 20,
-        Fault::UnknownKind => 21,
-        Fault::WrongLength => 22,
-        Fault::NoNumber => 23,
-        Fault::Repeated => 24,
-        Fault::NotMet => 25,
-        Fault::ManyAreas => 26,
-        Fault::ManyPositions => 27,
+impl Fault {
+    // The number that a scene's last line tells.
+    pub fn fault_number(self) -> u8
+        ensures { result ≡ R.fault_number self }
+    {
+        match self {
+            Fault::CutShort => 20,
+            Fault::UnknownKind => 21,
+            Fault::WrongLength => 22,
+            Fault::NoNumber => 23,
+            Fault::Repeated => 24,
+            Fault::NotMet => 25,
+            Fault::ManyAreas => 26,
+            Fault::ManyPositions => 27,
+        }
     }
 }
 
 // What stands at an offset: a record, with its area numbers, how many positions an area has, and of a place whether it is asked how far it is; the end; or a
-// fault and its field's offset.
+// fault and its field's offset. One enum and no `Result`: the end and a fault each end a scene, and nothing passes a fault up by `?`.
 #[derive(Clone, Copy)]
 pub enum Read {
     End,
@@ -63,6 +65,7 @@ fn length_at(s: &[u8], at: usize) -> usize
     wire::u32_at(s, at) as usize
 }
 
+#[tactic(auto, unfolding(crate::specs::Records::area_at))]
 fn area_at(s: &[u8], at: usize, len: usize) -> Read
     requires { (length s.now ≤ 65536) × (at + 6 + len ≤ length s.now) }
     ensures { result ≡ R.area_at s.now at len }
@@ -74,6 +77,7 @@ fn area_at(s: &[u8], at: usize, len: usize) -> Read
 }
 
 // Kinds 2 and 4 ask of an area where a position lies, or how `far` it is.
+#[tactic(auto, unfolding(crate::specs::Records::place_at))]
 fn place_at(s: &[u8], at: usize, len: usize, far: bool) -> Read
     requires { (length s.now ≤ 65536) × (at + 6 + len ≤ length s.now) }
     ensures { result ≡ R.place_at far s.now at len }
@@ -84,6 +88,7 @@ fn place_at(s: &[u8], at: usize, len: usize, far: bool) -> Read
     Read::Place(number_at(s, at + 6), far)
 }
 
+#[tactic(auto, unfolding(crate::specs::Records::pair_at))]
 fn pair_at(s: &[u8], at: usize, len: usize) -> Read
     requires { (length s.now ≤ 65536) × (at + 6 + len ≤ length s.now) }
     ensures { result ≡ R.pair_at s.now at len }
@@ -95,26 +100,21 @@ fn pair_at(s: &[u8], at: usize, len: usize) -> Read
 }
 
 // A record whose bytes are all there, by its kind.
+#[tactic(auto, unfolding(crate::specs::Records::kind_at))]
 fn kind_at(s: &[u8], at: usize, len: usize) -> Read
     requires { (length s.now ≤ 65536) × (at + 6 + len ≤ length s.now) }
     ensures { result ≡ R.kind_at s.now at len }
 {
-    let kind = number_at(s, at + 4);
-    if kind == 1 {
-        return area_at(s, at, len);
+    match number_at(s, at + 4) {
+        1 => area_at(s, at, len),
+        2 => place_at(s, at, len, false),
+        3 => pair_at(s, at, len),
+        4 => place_at(s, at, len, true),
+        _ => Read::Bad(Fault::UnknownKind, at + 4),
     }
-    if kind == 2 {
-        return place_at(s, at, len, false);
-    }
-    if kind == 3 {
-        return pair_at(s, at, len);
-    }
-    if kind == 4 {
-        return place_at(s, at, len, true);
-    }
-    Read::Bad(Fault::UnknownKind, at + 4)
 }
 
+#[tactic(auto, unfolding(crate::specs::Records::read_at))]
 pub fn read_at(s: &[u8], at: usize) -> Read
     requires { (length s.now ≤ 65536) × (at ≤ length s.now) }
     ensures { result ≡ R.read_at s.now at }

@@ -23,15 +23,14 @@ use Rattle.scene_records.specs.declared.Read.TheVariants as Read
 use Rattle.scene_records.specs.Records.{u16_of, u32_of, kind_field, body_field, area_at, place_at, pair_at, kind_at, read_at, floats_at}
 use Rattle.scene_store.specs.declared.Area.{Area}
 use Rattle.scene_store.specs.Store.{corners, codes, blank, counted, triangle_count, place_in, pair_in}
-use Rattle.scene_far.specs.declared.Said.{Said}
-use Rattle.scene_far.specs.declared.Said.TheVariants as Said
+use Rattle.scene_far.specs.Said.{Said}
+use Rattle.scene_far.specs.Said as Said
 use Rattle.scene_far.specs.Far.{far_in, place_said, far_said, said_in}
 use Rattle.scene_far.proofs.Refusals.{same_refusals}
 use Rattle.scene_far.proofs.Chords.{Bits, far_bits}
 use Rattle.loop_distances.specs.Distances as Far
 use Rattle.scene_store.proofs.Counts.{built_count}
-use Rattle.scene_notes.specs.declared.Judged.{Judged}
-use Rattle.scene_notes.specs.declared.Judged.TheVariants.{Fine, Bad}
+use Rattle.scene_notes.specs.Judged.{Judged, Fine, Bad}
 use Rattle.scene_notes.specs.Noted as N
 use Rattle.scene_notes.specs.Noted.{Scene, index_of, judge_area, is_zero, first_zero, is_unmet, judge_numbers, judge_named}
 use Rattle.scene_notes.proofs.Tables.{allowed}

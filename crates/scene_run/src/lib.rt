@@ -15,7 +15,7 @@ fn line_of(report: Report, records: usize, at: usize) -> Line
 {
     match report {
         Report::End => Line::End(records),
-        Report::Bad(f, field) => Line::Refused(scene_records::fault_number(f), at, field),
+        Report::Bad(f, field) => Line::Refused(f.fault_number(), at, field),
         Report::Refused(k) => Line::Refused(k, at, at + 6),
         Report::RefusedAt(k, index) => Line::RefusedAt(k, at, at + 6, index),
         Report::Line(line) => line,
@@ -25,13 +25,7 @@ fn line_of(report: Report, records: usize, at: usize) -> Line
 fn goes_on(report: Report) -> bool
     ensures { result ≡ Sc.goes_on report }
 {
-    match report {
-        Report::End => false,
-        Report::Bad(_, _) => false,
-        Report::Refused(_) => false,
-        Report::RefusedAt(_, _) => false,
-        Report::Line(_) => true,
-    }
+    matches!(report, Report::Line(_))
 }
 
 // The scene of at most 65,536 bytes, over a lent store.

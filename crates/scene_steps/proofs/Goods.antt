@@ -20,12 +20,11 @@ use Rattle.scene_records.specs.declared.Read.TheVariants as Read
 use Rattle.scene_records.specs.Records.{read_at, size_of}
 use Rattle.scene_records.proofs.Sizes.{within}
 use Rattle.scene_store.specs.declared.Area.{Area}
-use Rattle.scene_notes.specs.declared.Judged.{Judged}
-use Rattle.scene_notes.specs.declared.Judged.TheVariants.{Fine, Bad}
+use Rattle.scene_notes.specs.Judged.{Judged, Fine, Bad}
 use Rattle.scene_notes.specs.Noted.{Scene, area_at, judge_area, judge_named}
 use Rattle.scene_store.specs.Store.{nobody, triangle_count, pair_in}
-use Rattle.scene_far.specs.declared.Said.{Said}
-use Rattle.scene_far.specs.declared.Said.TheVariants as Said
+use Rattle.scene_far.specs.Said.{Said}
+use Rattle.scene_far.specs.Said as Said
 use Rattle.scene_steps.specs.Steps.{refused, refused_at, wrote, of_positions, refusal, passed_by, with_area, area_told, area_out, area_made, area_by, area_step, met, Good}
 use Rattle.scene_steps.specs.Steps.{place_told, said_of, place_met, place_by, place_step, pair_told, pair_met, pair_by, pair_step, step_by, step}
 use Rattle.scene_store.proofs.Counts.{built_count}

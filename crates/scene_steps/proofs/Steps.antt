@@ -9,12 +9,13 @@ use lib.ListN.{length, drop, get_or, length-append, take-append-drop}
 use lib.Seq.{set_split}
 use lib.Dec.{ltb}
 use lib.Ieee.{Float}
+use Rattle.std.specs.Prelude.{Result, Ok, Err}
 use Rattle.vec3.specs.declared.Vec3.{Vec3}
 use Rattle.wire.specs.Wire.{vec_of}
+use Rattle.judge.specs.declared.Refusal.{Refusal}
+use Rattle.judge.specs.Refusals.{number as number_of_refusal}
 use Rattle.minor_arc.specs.declared.Mode.TheVariants.{Plain}
 use Rattle.loop_header.specs.declared.Header.{Header}
-use Rattle.loop_build.specs.declared.Built.{Built}
-use Rattle.loop_build.specs.declared.Built.TheVariants as Built
 use Rattle.loop_build.specs.Build as B
 use Rattle.loop_ask.specs.Answers.{Told}
 use Rattle.loop_ask.specs.Answers as Ask
@@ -23,16 +24,15 @@ use Rattle.scene_records.specs.declared.Fault.{Fault}
 use Rattle.scene_records.specs.Records.{floats_at}
 use Rattle.scene_store.specs.declared.Area.{Area}
 use Rattle.scene_notes.specs.declared.Notes.{Notes}
-use Rattle.scene_notes.specs.declared.Judged.{Judged}
-use Rattle.scene_notes.specs.declared.Judged.TheVariants.{Fine, Bad}
+use Rattle.scene_notes.specs.Judged.{Judged, Fine, Bad}
 use Rattle.scene_steps.specs.declared.Report.{Report}
 use Rattle.scene_steps.specs.declared.Report.TheVariants as Report
 use Rattle.scene_steps.specs.declared.Stepped.{Stepped}
 use Rattle.scene_notes.specs.Noted.{Scene, index_of, areas_of, view, passed_notes, Addable, area_at, added_notes, judge_area, is_past, judge_numbers, judge_named}
 use Rattle.scene_notes.proofs.Tables.{met_count, Allowed, allowed, all_met, one_judged, two_judged}
 use Rattle.scene_store.specs.Store.{nobody, after, built_at, triangle_count, pair_in, Lies, Room}
-use Rattle.scene_far.specs.declared.Said.{Said}
-use Rattle.scene_far.specs.declared.Said.TheVariants as Said
+use Rattle.scene_far.specs.Said.{Said}
+use Rattle.scene_far.specs.Said as Said
 use Rattle.scene_far.specs.Far.{said_in}
 use Rattle.scene_steps.specs.Steps.{refused, refused_at, of_positions, refusal, refused_index, passed_by, with_area, area_made, area_step, place_told, place_met, place_step, pair_told, pair_met, pair_step, Good}
 use Rattle.scene_steps.specs.Steps.{refusal_report, place_report, pair_report, Sized, Ready}
@@ -169,17 +169,17 @@ module _ {s : List ℕ} {c : Notes} {ps ns : List Float} {cs : List ℕ} (number
   )
 
   -- what the build answered and left
-  module _ {b : Built} {ps' ns' : List Float} {cs' : List ℕ} (e : record { answer = B.told b; positions = ps'; normals = ns'; classes = cs' } ≡ built_at (floats_at s (c.at + 8) count) c.used ps ns cs) where
-    pub area_refused : {k : ℕ} → b ≡ Built.Refused k → {o : Report} → o ≡ refusal_report k (refused_index s c.at count)
+  module _ {b : Result Header Refusal} {ps' ns' : List Float} {cs' : List ℕ} (e : record { answer = B.told b; positions = ps'; normals = ns'; classes = cs' } ≡ built_at (floats_at s (c.at + 8) count) c.used ps ns cs) where
+    pub area_refused : {k : Refusal} → b ≡ Err k → {o : Report} → o ≡ refusal_report (number_of_refusal k) (refused_index s c.at count)
         → outcome_with o c ps' ns' cs' ≡ area_made_outcome s c number count ps ns cs
     unfolding area_made
     area_refused {k} q {o} v =
         let l = floats_at s (c.at + 8) count in
         let z = store_kept l c.used ps ns cs (sym (ap B.told q) ∙ ap (λ (o : B.Outcome). o.answer) e) in
         ap (λ (x : B.Outcome). outcome_with o c x.positions x.normals x.classes) (e ∙ z)
-        ∙ rw (v, z) (refusal_same c c ps ns cs k (refused_index s c.at count))
+        ∙ rw (v, z) (refusal_same c c ps ns cs (number_of_refusal k) (refused_index s c.at count))
 
-    module _ {h : Header} (q : b ≡ Built.Loop h) where
+    module _ {h : Header} (q : b ≡ Ok h) where
       fits : h.count ≤ count
       fits = built_count s (c.at + 8) count c.used ps ns cs (sym (ap B.told q) ∙ ap (λ (o : B.Outcome). o.answer) e)
 

@@ -14,15 +14,14 @@ use Rattle.scene_records.specs.declared.Read.TheVariants as Read
 use Rattle.scene_records.specs.Records.{read_at, floats_at}
 use Rattle.scene_store.specs.declared.Area.{Area}
 use Rattle.scene_notes.specs.declared.Notes.{Notes}
-use Rattle.scene_notes.specs.declared.Judged.{Judged}
-use Rattle.scene_notes.specs.declared.Judged.TheVariants.{Fine, Bad}
+use Rattle.scene_notes.specs.Judged.{Judged, Fine, Bad}
 use Rattle.scene_steps.specs.declared.Stepped.{Stepped}
 use Rattle.scene_steps.specs.declared.Report.{Report}
 use Rattle.scene_steps.specs.declared.Report.TheVariants as Report
 use Rattle.scene_notes.specs.Noted.{Scene, index_of, Kept, view, passed_notes, area_at, judge_area, judge_named}
 use Rattle.scene_store.specs.Store.{nobody, built_at, triangle_count, pair_in}
-use Rattle.scene_far.specs.declared.Said.{Said}
-use Rattle.scene_far.specs.declared.Said.TheVariants as Said
+use Rattle.scene_far.specs.Said.{Said}
+use Rattle.scene_far.specs.Said as Said
 use Rattle.scene_far.specs.Far.{said_in}
 
 -- what a record comes to: there is none; its fault and that field's offset; a call's own refusal, of a list of positions with the index of the first that is

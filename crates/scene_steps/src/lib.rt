@@ -2,22 +2,24 @@
 #![tactic(auto)]
 
 ghost use Rattle.std.specs.Prelude.{◌≡◌, ◌+◌, ◌*◌, ◌≤◌, ◌<◌, length};
-ghost use Rattle.loop_relate.specs.Relations.{told_related};
+ghost use Rattle.judge.specs.Refusals.{number};
+ghost use Rattle.loop_relate.specs.Relations.{relation_code, told_related};
 ghost use Rattle.scene_store.specs.Store as St;
+ghost use Rattle.scene_far.specs.Far as F;
+ghost use Rattle.scene_notes.specs.Judged as J;
 ghost use Rattle.scene_notes.specs.Noted as N;
 ghost use Rattle.scene_steps.specs.Steps as S;
 
-use loop_build::Built;
+use judge::Refusal;
 use loop_header::Header;
-use loop_relate::Related;
-use scene_far::Said;
+use loop_relate::Relation;
 use scene_lines::Line;
-use scene_notes::{Judged, Notes};
+use scene_notes::Notes;
 use scene_records::{Fault, Read};
 use scene_store::Area;
 
 // What a record comes to: there is none; its fault and that field's offset; a call's own refusal, of a list of positions with the index of the first that
-// is refused; or its line.
+// is refused; or its line. A refusal goes by its number, as the definitions tell it.
 #[derive(Clone, Copy)]
 pub enum Report {
     End,
@@ -35,21 +37,22 @@ pub struct Stepped {
 }
 
 // Whether a refusal is of one position in a list.
-fn is_of_positions(k: u8) -> bool
-    ensures { result ≡ S.of_positions k }
+fn is_of_positions(r: Refusal) -> bool
+    ensures { result ≡ S.of_positions (number r) }
 {
-    (k == 3) | (k == 4)
+    matches!(r, Refusal::NotFinite | Refusal::OffRange)
 }
 
 // A call's own refusal: 3 and 4 come with the index of the first position refused, of the list that stands in the record at `at`.
-fn refusal(s: &[u8], at: usize, count: usize, k: u8) -> Report
+#[tactic(auto, unfolding(crate::specs::Steps::refusal_report))]
+fn refusal(s: &[u8], at: usize, count: usize, r: Refusal) -> Report
     requires { (length s.now ≤ 65536) × (count ≤ 1024) × (at + (8 + 24 * count) ≤ length s.now) }
-    ensures { result ≡ S.refusal_report k (S.refused_index s.now at count) }
+    ensures { result ≡ S.refusal_report (number r) (S.refused_index s.now at count) }
 {
-    if !is_of_positions(k) {
-        return Report::Refused(k);
+    if !is_of_positions(r) {
+        return Report::Refused(r.number());
     }
-    Report::RefusedAt(k, scene_records::first_refused(s, at + 8, count))
+    Report::RefusedAt(r.number(), scene_records::first_refused(s, at + 8, count))
 }
 
 // The line of an area that was built, and the notes with it.
@@ -90,16 +93,16 @@ fn area_made(
     normals: &mut [f64],
     classes: &mut [u8],
 ) -> Stepped
-    requires { S.Ready s.now c (8 + 24 * count) positions.old normals.old classes.old × (Judged.Fine ≡ N.judge_area (N.areas_of c) c.given c.at number count) }
+    requires { S.Ready s.now c (8 + 24 * count) positions.old normals.old classes.old × (J.Fine ≡ N.judge_area (N.areas_of c) c.given c.at number count) }
     ensures { record { stepped = result; positions = positions.new; normals = normals.new; classes = classes.new }
         ≡ S.area_made_outcome s.now c number count positions.old normals.old classes.old }
 {
     match scene_store::build_area(s, c.at + 8, count, c.used, positions, normals, classes) {
-        Built::Refused(k) => Stepped {
-            report: refusal(s, c.at, count, k),
+        Err(r) => Stepped {
+            report: refusal(s, c.at, count, r),
             next: c,
         },
-        Built::Loop(h) => area_line(c, number, count, h, positions, normals, classes),
+        Ok(h) => area_line(c, number, count, h, positions, normals, classes),
     }
 }
 
@@ -117,22 +120,22 @@ fn area_step(
         ≡ S.area_outcome s.now c number count positions.old normals.old classes.old }
 {
     match scene_notes::judge_area(c, number, count) {
-        Judged::Bad(f, field) => Stepped {
+        Err((f, field)) => Stepped {
             report: Report::Bad(f, field),
             next: c,
         },
-        Judged::Fine => area_made(s, c, number, count, positions, normals, classes),
+        Ok(()) => area_made(s, c, number, count, positions, normals, classes),
     }
 }
 
 // What was said of a place, which is a list of one.
-fn place_told(s: &[u8], at: usize, said: Said) -> Report
+fn place_told(s: &[u8], at: usize, said: Result<Line, Refusal>) -> Report
     requires { (length s.now ≤ 65536) × (at + 32 ≤ length s.now) }
-    ensures { result ≡ S.place_report said (S.refused_index s.now at 1) }
+    ensures { result ≡ S.place_report (F.told_said said) (S.refused_index s.now at 1) }
 {
     match said {
-        Said::Refused(k) => refusal(s, at, 1, k),
-        Said::Line(line) => Report::Line(line),
+        Err(r) => refusal(s, at, 1, r),
+        Ok(line) => Report::Line(line),
     }
 }
 
@@ -177,26 +180,35 @@ fn place_step(
     let numbers = [number];
     let indexes = [i];
     match scene_notes::judge_numbers(c.at, c.met, &numbers, &indexes) {
-        Judged::Bad(f, field) => Stepped {
+        Err((f, field)) => Stepped {
             report: Report::Bad(f, field),
             next: c,
         },
-        Judged::Fine => place_met(s, c, far, number, i, positions, normals, classes),
+        Ok(()) => place_met(s, c, far, number, i, positions, normals, classes),
+    }
+}
+
+// The number of a relation.
+fn relation_number(relation: Relation) -> u8
+    ensures { result ≡ relation_code relation }
+{
+    match relation {
+        Relation::Disjoint => 0,
+        Relation::Touching => 1,
+        Relation::Intersecting => 2,
+        Relation::Containing => 3,
+        Relation::Within => 4,
+        Relation::Equal => 5,
     }
 }
 
 // The line of a pair, by its relation's number.
-fn pair_told(p: Related, number: usize, other: usize) -> Report
+fn pair_told(p: Result<Relation, Refusal>, number: usize, other: usize) -> Report
     ensures { result ≡ S.pair_report (told_related p) number other }
 {
     match p {
-        Related::Refused(k) => Report::Refused(k),
-        Related::Disjoint => Report::Line(Line::Pair(number, other, 0)),
-        Related::Touching => Report::Line(Line::Pair(number, other, 1)),
-        Related::Intersecting => Report::Line(Line::Pair(number, other, 2)),
-        Related::Containing => Report::Line(Line::Pair(number, other, 3)),
-        Related::Within => Report::Line(Line::Pair(number, other, 4)),
-        Related::Equal => Report::Line(Line::Pair(number, other, 5)),
+        Err(r) => Report::Refused(r.number()),
+        Ok(relation) => Report::Line(Line::Pair(number, other, relation_number(relation))),
     }
 }
 
@@ -243,11 +255,11 @@ fn pair_step(
     let numbers = [number, other];
     let indexes = [i, j];
     match scene_notes::judge_numbers(c.at, c.met, &numbers, &indexes) {
-        Judged::Bad(f, field) => Stepped {
+        Err((f, field)) => Stepped {
             report: Report::Bad(f, field),
             next: c,
         },
-        Judged::Fine => pair_met(s, c, number, other, i, j, positions, normals, classes),
+        Ok(()) => pair_met(s, c, number, other, i, j, positions, normals, classes),
     }
 }
 

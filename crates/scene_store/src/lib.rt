@@ -9,11 +9,10 @@ ghost use Rattle.loop_triangles.specs.Triangles.{told_cut};
 ghost use Rattle.scene_records.specs.Records.{floats_at};
 ghost use Rattle.scene_store.specs.Store as St;
 
-use loop_ask::Placed;
-use loop_build::Built;
+use judge::Refusal;
+use loop_ask::Place;
 use loop_header::Header;
-use loop_relate::Related;
-use loop_triangles::Cut;
+use loop_relate::Relation;
 use minor_arc::Mode;
 use vec3::Vec3;
 
@@ -35,7 +34,7 @@ fn build_from(
     positions: &mut [f64],
     normals: &mut [f64],
     classes: &mut [u8],
-) -> Built
+) -> Result<Header, Refusal>
     requires { St.Room s.now at count used (length list.old) (length positions.old) (length normals.old) (length classes.old) }
     ensures { record { answer = B.told result; positions = positions.new; normals = normals.new; classes = classes.new }
         ≡ St.built_at (floats_at s.now at count) used positions.old normals.old classes.old }
@@ -60,7 +59,7 @@ pub fn build_area(
     positions: &mut [f64],
     normals: &mut [f64],
     classes: &mut [u8],
-) -> Built
+) -> Result<Header, Refusal>
     requires { (count ≤ 1024) × St.Room s.now at count used (3 * count) (length positions.old) (length normals.old) (length classes.old) }
     ensures { record { answer = B.told result; positions = positions.new; normals = normals.new; classes = classes.new }
         ≡ St.built_at (floats_at s.now at count) used positions.old normals.old classes.old }
@@ -80,16 +79,19 @@ pub fn build_area(
 }
 
 // How many triangles a cut comes to: none where it is refused.
-fn counted(cut: Cut) -> usize
+fn counted(cut: Result<usize, Refusal>) -> usize
     ensures { result ≡ St.counted (told_cut cut) }
 {
-    match cut {
-        Cut::Refused(_) => 0,
-        Cut::Triangles(n) => n,
-    }
+    cut.unwrap_or(0)
 }
 
-pub fn place_in(a: Area, positions: &[f64], normals: &[f64], classes: &[u8], p: Vec3) -> Placed
+pub fn place_in(
+    a: Area,
+    positions: &[f64],
+    normals: &[f64],
+    classes: &[u8],
+    p: Vec3,
+) -> Result<Place, Refusal>
     requires { St.Lies a positions.now normals.now classes.now }
     ensures { told_placed result ≡ St.place_in a positions.now normals.now classes.now p }
 {
@@ -107,7 +109,13 @@ pub fn place_in(a: Area, positions: &[f64], normals: &[f64], classes: &[u8], p: 
     )
 }
 
-pub fn pair_in(a: Area, b: Area, positions: &[f64], normals: &[f64], classes: &[u8]) -> Related
+pub fn pair_in(
+    a: Area,
+    b: Area,
+    positions: &[f64],
+    normals: &[f64],
+    classes: &[u8],
+) -> Result<Relation, Refusal>
     requires { St.Lies a positions.now normals.now classes.now × St.Lies b positions.now normals.now classes.now }
     ensures { told_related result ≡ St.pair_in a b positions.now normals.now classes.now }
 {

@@ -32,6 +32,7 @@ fn put_byte(out: &mut [u8], at: usize, b: u8) -> usize
 }
 
 // The digit of n at a power of ten, unless n is below it.
+#[tactic(auto, using(crate::proofs::Writes::nothing))]
 fn put_digit(out: &mut [u8], at: usize, n: usize, power: usize) -> usize
     requires { (at < length out.old) × (0 < power) }
     ensures wrote { W.Wrote out.old at (W.digit n power) out.new result }
@@ -43,6 +44,8 @@ fn put_digit(out: &mut [u8], at: usize, n: usize, power: usize) -> usize
     put_byte(out, at, (48 + n / power % 10) as u8)
 }
 
+// A number and a float's bits are put digit by digit: `write!` says which bytes it wrote only where it succeeds, and nothing says that it does.
+#[tactic(auto, unfolding(crate::specs::Words::decimal), using(crate::proofs::Writes::then))]
 pub fn put_number(out: &mut [u8], at: usize, n: usize) -> usize
     requires { at + 5 ≤ length out.old }
     ensures wrote { W.Wrote out.old at (W.decimal n) out.new result }
@@ -127,18 +130,17 @@ pub fn put_sure(out: &mut [u8], at: usize, weak: bool) -> usize
     }
 }
 
+// An answer and a relation go by their numbers, as the definitions tell them.
 pub fn put_answer(out: &mut [u8], at: usize, answer: u8) -> usize
     requires { at + 9 ≤ length out.old }
     ensures wrote { W.Wrote out.old at (W.place_word answer) out.new result }
     ensures upper_bound { result ≤ at + 9 }
 {
-    if answer == 0 {
-        return put(out, at, b" outside\n");
+    match answer {
+        0 => put(out, at, b" outside\n"),
+        1 => put(out, at, b" inside\n"),
+        _ => put(out, at, b" mute\n"),
     }
-    if answer == 1 {
-        return put(out, at, b" inside\n");
-    }
-    put(out, at, b" mute\n")
 }
 
 // The words of the last two relations.
@@ -147,13 +149,11 @@ fn put_last_relations(out: &mut [u8], at: usize, relation: u8) -> usize
     ensures wrote { W.Wrote out.old at (W.later_word relation) out.new result }
     ensures upper_bound { result ≤ at + 12 }
 {
-    if relation == 3 {
-        return put(out, at, b" containing\n");
+    match relation {
+        3 => put(out, at, b" containing\n"),
+        4 => put(out, at, b" within\n"),
+        _ => put(out, at, b" equal\n"),
     }
-    if relation == 4 {
-        return put(out, at, b" within\n");
-    }
-    put(out, at, b" equal\n")
 }
 
 pub fn put_relation(out: &mut [u8], at: usize, relation: u8) -> usize
@@ -161,14 +161,10 @@ pub fn put_relation(out: &mut [u8], at: usize, relation: u8) -> usize
     ensures wrote { W.Wrote out.old at (W.relation_word relation) out.new result }
     ensures upper_bound { result ≤ at + 14 }
 {
-    if relation == 0 {
-        return put(out, at, b" disjoint\n");
+    match relation {
+        0 => put(out, at, b" disjoint\n"),
+        1 => put(out, at, b" touching\n"),
+        2 => put(out, at, b" intersecting\n"),
+        _ => put_last_relations(out, at, relation),
     }
-    if relation == 1 {
-        return put(out, at, b" touching\n");
-    }
-    if relation == 2 {
-        return put(out, at, b" intersecting\n");
-    }
-    put_last_relations(out, at, relation)
 }

@@ -7,7 +7,7 @@ ghost use Rattle.ring_cut.specs.Cut.{Ring};
 ghost use Rattle.test_cuts.specs.Bytes.{Bytes};
 
 use std::io::{Read, Write};
-use vec3::{Insides, Vec3};
+use vec3::Vec3;
 
 // A write that fails is passed over, and the next one is tried.
 fn print(out: &mut impl Write, text: &[u8]) {
@@ -24,8 +24,8 @@ fn print_number(out: &mut impl Write, i: usize, number: u16) {
 }
 
 fn print_triangles(out: &mut impl Write, triangles: &[u16]) {
-    for i in 0..triangles.len() {
-        print_number(out, i, triangles[i]);
+    for (i, number) in triangles.iter().enumerate() {
+        print_number(out, i, *number);
     }
 }
 
@@ -41,16 +41,15 @@ fn print_position(out: &mut impl Write, v: Vec3) {
     print_float(out, v.z);
 }
 
-fn print_insides(out: &mut impl Write, insides: Insides) {
-    match insides {
-        Insides::Absent => print(out, b"; no insides\n"),
-        Insides::Two(a, b) => {
-            print(out, b"; insides");
-            print_position(out, a);
-            print_position(out, b);
-            print(out, b"\n");
-        }
-    }
+fn print_insides(out: &mut impl Write, insides: Option<(Vec3, Vec3)>) {
+    let Some((a, b)) = insides else {
+        print(out, b"; no insides\n");
+        return;
+    };
+    print(out, b"; insides");
+    print_position(out, a);
+    print_position(out, b);
+    print(out, b"\n");
 }
 
 fn print_verdict(out: &mut impl Write, accepted: bool) {
@@ -128,24 +127,16 @@ fn answer_one(from: &mut impl Read, out: &mut impl Write) -> bool {
         return false;
     }
     let n = wire::u16_at(&head, 0) as usize;
-    if n < 3 {
-        return false;
-    }
-    if n > 512 {
-        return false;
-    }
-    answer(from, out, n)
+    (3..=512).contains(&n) && answer(from, out, n)
 }
 
-// The loop counts its iterations down, since nothing says that an input ends.
+// The rings are counted, since nothing says that an input ends.
 fn main(rt: HostRuntime) {
     let mut from = rt.stdin();
     let mut out = rt.stdout();
-    let mut iterations = 10000u64;
-    while iterations > 0 {
+    for _ in 0..10000 {
         if !answer_one(&mut from, &mut out) {
             return;
         }
-        iterations -= 1;
     }
 }

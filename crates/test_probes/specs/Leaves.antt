@@ -1,5 +1,5 @@
 -- The test probes over the leaves. Their operands are three vectors a, b, c of raw floats; an operation's number is its index in a table. Definitions only.
-use Rattle.std.specs.Prelude.{ℕ, ◌/◌, ◌%◌, Bool, true, false, List, [], ◌∷◌, length, get_or, eqb, leb, ltb, Float, if◌then◌else◌}
+use Rattle.std.specs.Prelude.{ℕ, ◌/◌, ◌%◌, Bool, true, false, List, [], ◌∷◌, is_some, unwrap_or, length, get_or, eqb, leb, ltb, Float, if◌then◌else◌}
 use Rattle.std.proofs.lemmas.List.Edits.{sets}
 use Rattle.std.specs.Float.{nan, binary64}
 use Rattle.std.specs.Float.Ieee.{to_bits}
@@ -7,12 +7,9 @@ use Rattle.numbers.specs.F64.{zero}
 use Rattle.numbers.specs.Near.{near, at_most, at_least}
 use Rattle.root.specs.Root.{root_of}
 use Rattle.vec3.specs.declared.Vec3.{Vec3}
-use Rattle.vec3.specs.declared.Point.{Point}
-use Rattle.vec3.specs.declared.Point.TheVariants.{Absent, At}
 use Rattle.vec3.specs.Vec.{vec, unit_vec, unit, cross, cross_unit, stable_unit, orthogonal, orthogonal_to, plus, minus, opposite, times, origin, dot, same, antipodes, raw_at, coords}
 use Rattle.vec3.specs.Points.{triangle_mean, midpoint}
 use Rattle.base.specs.declared.Side.{Side}
-use Rattle.base.specs.declared.Side.TheVariants.{Left, Right, Collinear}
 use Rattle.base.specs.Sides.{side_code, side_of}
 use Rattle.base.specs.Turns.{sine_of, turning_angle}
 use Rattle.chord_length.specs.Chords.{squared, chord, sum}
@@ -21,10 +18,6 @@ use Rattle.cap.specs.Caps.{contains, intersects, bounding_cap}
 use Rattle.bytes_loop.specs.Outcome as L
 
 -- ---- vectors
-abbrev pub point_or : Point → Vec3
-point_or Absent = origin
-point_or (At p) = p
-
 abbrev pub vectors : Vec3 → Vec3 → Vec3 → List Vec3
 vectors a b c =
     vec a.x a.y a.z ∷
@@ -39,8 +32,8 @@ vectors a b c =
     minus a b ∷
     opposite a ∷
     times a b.x ∷
-    point_or (triangle_mean a b c) ∷
-    point_or (midpoint a b) ∷ []
+    unwrap_or (triangle_mean a b c) origin ∷
+    unwrap_or (midpoint a b) origin ∷ []
 
 unfoldable pub vector_of : ℕ → Vec3 → Vec3 → Vec3 → Vec3
 vector_of op a b c = get_or (vectors a b c) op origin
@@ -68,10 +61,6 @@ yes true = 1
 abbrev pub side_no : Side → ℕ
 side_no s = L.unsigned (side_code s)
 
-abbrev pub present : Point → ℕ
-present Absent = 0
-present (At p) = 1
-
 abbrev pub cap_of : Vec3 → Float → Cap
 cap_of v r = record { centre = v; radius = squared r }
 
@@ -86,7 +75,7 @@ cases a b c =
     side_no (side_of a b c) ∷
     yes (contains (cap_of a b.x) c) ∷
     yes (intersects (cap_of a b.x) (cap_of c b.y)) ∷
-    present (triangle_mean a b c) ∷ []
+    yes (is_some (triangle_mean a b c)) ∷ []
 
 unfoldable pub case_of : ℕ → Vec3 → Vec3 → Vec3 → ℕ
 case_of op a b c = get_or (cases a b c) op 0

@@ -10,16 +10,8 @@ use base::Side;
 use bytes_loop::refusal;
 use cap::Cap;
 use chord_length::ChordLength;
-use vec3::{Point, Vec3};
-
-fn point_or(p: Point) -> Vec3
-    ensures { result ≡ Leaves.point_or p }
-{
-    match p {
-        Point::Absent => Vec3::ZERO,
-        Point::At(v) => v,
-    }
-}
+use judge::Refusal;
+use vec3::Vec3;
 
 fn yes(b: bool) -> u32
     ensures { result ≡ Leaves.yes b }
@@ -37,15 +29,7 @@ fn side_no(s: Side) -> u32
     }
 }
 
-fn present(p: Point) -> u32
-    ensures { result ≡ Leaves.present p }
-{
-    match p {
-        Point::Absent => 0,
-        Point::At(_) => 1,
-    }
-}
-
+#[tactic(auto, using(crate::proofs::Tables::past), unfolding(crate::specs::Leaves::vector_of))]
 fn vector(op: u32, a: Vec3, b: Vec3, c: Vec3) -> Vec3
     ensures { result ≡ Leaves.vector_of op a b c }
 {
@@ -62,8 +46,8 @@ fn vector(op: u32, a: Vec3, b: Vec3, c: Vec3) -> Vec3
         9 => a.sub(b),
         10 => a.neg(),
         11 => a.scale(b.x),
-        12 => point_or(a.triangle_mean(b, c)),
-        13 => point_or(a.midpoint(b)),
+        12 => a.triangle_mean(b, c).unwrap_or(Vec3::ZERO),
+        13 => a.midpoint(b).unwrap_or(Vec3::ZERO),
         _ => Vec3::ZERO,
     }
 }
@@ -93,6 +77,7 @@ fn cap_of(centre: Vec3, radius: f64) -> Cap
     }
 }
 
+#[tactic(auto, using(crate::proofs::Tables::past), unfolding(crate::specs::Leaves::case_of))]
 fn case(op: u32, a: Vec3, b: Vec3, c: Vec3) -> u32
     ensures { result ≡ Leaves.case_of op a b c }
 {
@@ -106,7 +91,7 @@ fn case(op: u32, a: Vec3, b: Vec3, c: Vec3) -> u32
         6 => side_no(base::side_of(a, b, c)),
         7 => yes(cap_of(a, b.x).contains_position(c)),
         8 => yes(cap_of(a, b.x).intersects(cap_of(c, b.y))),
-        9 => present(a.triangle_mean(b, c)),
+        9 => yes(a.triangle_mean(b, c).is_some()),
         _ => 0,
     }
 }
@@ -160,10 +145,10 @@ pub extern "C" fn leaf_case(op: u32, input: &[f64]) -> u32
     ensures { result ≡ Leaves.leaf_case op input.now }
 {
     if input.len() < 9 {
-        return refusal(1);
+        return refusal(Refusal::Shape);
     }
     if 10 <= op {
-        return refusal(1);
+        return refusal(Refusal::Shape);
     }
     case(
         op,
@@ -179,10 +164,10 @@ pub extern "C" fn leaf_cap(list: &[f64], out: &mut [f64]) -> u32
     ensures { outcome result out.new ≡ Leaves.leaf_cap list.now out.old }
 {
     if list.len() % 3 != 0 {
-        return refusal(1);
+        return refusal(Refusal::Shape);
     }
     if out.len() < 4 {
-        return refusal(5);
+        return refusal(Refusal::NoRoom);
     }
     let c = cap::bounding_cap(list, list.len() / 3);
     vec3::put(out, 0, c.centre);

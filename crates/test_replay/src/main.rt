@@ -9,17 +9,10 @@ use std::io::{Cursor, Error, ErrorKind, Read, Write};
 use std::rt::{Env, Files};
 use std::{fs, io, str};
 
-// What came of a record.
-const ENDED: u8 = 0;
-
-const AGREED: u8 = 1;
-
-const DIFFERED: u8 = 2;
-
 // The bytes that an output holds before the call.
 fn blank(out: &mut [u8]) {
-    for i in 0..out.len() {
-        out[i] = 165 ^ (i % 256 * 7 % 256) as u8;
+    for (i, byte) in out.iter_mut().enumerate() {
+        *byte = 165 ^ (i % 256 * 7 % 256) as u8;
     }
 }
 
@@ -29,60 +22,6 @@ fn word(s: &[u8]) -> u64 {
         return 0;
     }
     wire::u64_at(s, 0)
-}
-
-fn ask_loop(export: u64, a: &[u8], b: &[u8]) -> u32 {
-    if export == 3 {
-        return loops::desk_place(a, b);
-    }
-    if export == 6 {
-        return loops::desk_accepts(a, b);
-    }
-    if export == 7 {
-        return loops::desk_convex(a);
-    }
-    if export == 8 {
-        return loops::desk_simple(a);
-    }
-    if export == 9 {
-        return loops::desk_vertex(a, b);
-    }
-    loops::desk_on_edge(a, b)
-}
-
-fn ask_loops(export: u64, a: &[u8], b: &[u8], out: &mut [u8]) -> u32 {
-    if export == 2 {
-        return loops::desk_build(a, out);
-    }
-    if export == 4 {
-        return loops::desk_pair(a, b);
-    }
-    if export == 5 {
-        return loops::desk_triangles(a, out);
-    }
-    if export == 11 {
-        return loops::desk_equivalent(a, b);
-    }
-    ask_loop(export, a, b)
-}
-
-fn ask_arcs(export: u64, a: &[u8], b: &[u8], out: &mut [u8]) -> u32 {
-    if export == 12 {
-        return minor_arcs::desk_arc(a, b, out);
-    }
-    if export == 13 {
-        return minor_arcs::desk_arc_opposite(a, out);
-    }
-    if export == 14 {
-        return minor_arcs::desk_arc_side(a, b);
-    }
-    if export == 15 {
-        return minor_arcs::desk_arc_contains(a, b);
-    }
-    if export == 16 {
-        return minor_arcs::desk_arc_intersection(a, b, out);
-    }
-    minor_arcs::desk_arc_relate(a, b, out)
 }
 
 fn full_in(out: &mut [u8], floats: &mut [f64]) -> u32
@@ -104,30 +43,42 @@ fn ask_full(out: &mut [u8]) -> u32 {
     full_in(out, &mut floats[..room])
 }
 
-// The port's answer, by the export's number.
+// The port's answer to an export that answers a word of 32 bits, by the export's number.
+fn ask(export: u64, a: &[u8], b: &[u8], out: &mut [u8]) -> u32 {
+    match export {
+        2 => loops::desk_build(a, out),
+        3 => loops::desk_place(a, b),
+        4 => loops::desk_pair(a, b),
+        5 => loops::desk_triangles(a, out),
+        6 => loops::desk_accepts(a, b),
+        7 => loops::desk_convex(a),
+        8 => loops::desk_simple(a),
+        9 => loops::desk_vertex(a, b),
+        10 => loops::desk_on_edge(a, b),
+        11 => loops::desk_equivalent(a, b),
+        12 => minor_arcs::desk_arc(a, b, out),
+        13 => minor_arcs::desk_arc_opposite(a, out),
+        14 => minor_arcs::desk_arc_side(a, b),
+        15 => minor_arcs::desk_arc_contains(a, b),
+        16 => minor_arcs::desk_arc_intersection(a, b, out),
+        22 => ask_full(out),
+        _ => minor_arcs::desk_arc_relate(a, b, out),
+    }
+}
+
+// The port's answer.
 fn answer(export: u64, a: &[u8], b: &[u8], out: &mut [u8]) -> u64 {
-    if export == 0 {
-        return floats::desk_root(word(a));
+    match export {
+        0 => floats::desk_root(word(a)),
+        1 => floats::desk_atan2(word(a), word(b)),
+        _ => u64::from(ask(export, a, b, out)),
     }
-    if export == 1 {
-        return floats::desk_atan2(word(a), word(b));
-    }
-    if export < 12 {
-        return ask_loops(export, a, b, out) as u64;
-    }
-    if export == 22 {
-        return ask_full(out) as u64;
-    }
-    ask_arcs(export, a, b, out) as u64
 }
 
 // Whether the port's answer, and all bytes of its output, are the recorded ones.
 fn agrees(export: u64, value: u64, a: &[u8], b: &[u8], left: &[u8], out: &mut [u8]) -> bool {
     blank(out);
-    if answer(export, a, b, out) != value {
-        return false;
-    }
-    *out == *left
+    answer(export, a, b, out) == value && *out == *left
 }
 
 // A record's bytes: what is handed in ends at `first` and at `second`, and the rest is the output.
@@ -151,7 +102,7 @@ fn agrees_in(
     )
 }
 
-// Reads a record's bytes, and has them replayed.
+// Reads a record's bytes, and says whether they are there and agree.
 fn replay_in(
     file: &mut impl Read,
     export: u64,
@@ -160,17 +111,11 @@ fn replay_in(
     second: usize,
     body: &mut [u8],
     out: &mut [u8],
-) -> u8
+) -> bool
     requires { (first ≤ second) × (second ≤ length body.old) }
 {
-    if !input::is_whole(input::read(file, body), body.len()) {
-        return DIFFERED;
-    }
-    if agrees_in(export, value, first, second, body, out) {
-        AGREED
-    } else {
-        DIFFERED
-    }
+    input::is_whole(input::read(file, body), body.len())
+        && agrees_in(export, value, first, second, body, out)
 }
 
 // With room for a record's bytes and for its output; a larger one is none of the host's.
@@ -181,11 +126,11 @@ fn replay_body(
     first: usize,
     second: usize,
     size: usize,
-) -> u8
+) -> bool
     requires { (first ≤ second) × (second ≤ size) }
 {
     if size > 4096 {
-        return DIFFERED;
+        return false;
     }
     let room = size - second;
     let mut body = [0u8; 4096];
@@ -201,60 +146,47 @@ fn replay_body(
     )
 }
 
-// Reads the head of a record, and has the rest replayed.
-fn replay_one(file: &mut impl Read) -> u8 {
+// Reads the head of a record, and has the rest replayed: whether it agrees, or none at the file's end.
+fn replay_one(file: &mut impl Read) -> Option<bool> {
     let mut head = [0u8; 16];
     if !input::is_whole(input::read(file, &mut head), 16) {
-        return ENDED;
+        return None;
     }
     let first = wire::u16_at(&head, 2) as usize;
     let second = first + wire::u16_at(&head, 4) as usize;
     let size = second + wire::u16_at(&head, 6) as usize;
-    replay_body(
+    Some(replay_body(
         file,
         wire::u16_at(&head, 0),
         wire::u64_at(&head, 8),
         first,
         second,
         size,
-    )
+    ))
 }
 
 fn print(out: &mut impl Write, agreed: u64, all: u64) {
     let _ = writeln!(out, "{agreed} of {all} agree");
 }
 
-// One more where the record agreed.
-fn counted(came: u8, agreed: u64) -> u64
-    requires { agreed < 1000000 }
-    ensures { result ≤ agreed + 1 }
-{
-    if came == AGREED { agreed + 1 } else { agreed }
-}
-
-// The loop counts its iterations down, since nothing says that a file ends.
+// The records are counted, since nothing says that a file ends.
 fn replay_all(file: &mut impl Read, out: &mut impl Write) {
-    let mut iterations = 1000000u64;
     let mut agreed = 0u64;
     let mut all = 0u64;
-    while iterations > 0 {
-        let came = replay_one(file);
-        if came == ENDED {
+    for _ in 0..1000000u64 {
+        let Some(agrees) = replay_one(file) else {
             break;
-        }
-        agreed = counted(came, agreed);
+        };
+        agreed += u64::from(agrees);
         all += 1;
-        iterations -= 1;
     }
     print(out, agreed, all);
 }
 
 // The library's paths are text.
 fn open<F: Files>(rt: &F, path: &[u8]) -> io::Result<F::File> {
-    match str::from_utf8(path) {
-        Ok(name) => fs::open(rt, name),
-        Err(_) => Err(Error::from(ErrorKind::InvalidFilename)),
-    }
+    let name = str::from_utf8(path).map_err(|_| Error::from(ErrorKind::InvalidFilename))?;
+    fs::open(rt, name)
 }
 
 // Says on standard error that a file could not be opened, and why: an error's text ends where its number or the room for it begins.

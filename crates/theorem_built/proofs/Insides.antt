@@ -6,13 +6,9 @@ use mathlib.Core.List.{List}
 use lib.ListN.{length}
 use lib.Dec.{ltb}
 use lib.Ieee.{Float}
-use Rattle.std.specs.Prelude.{if◌then◌else◌}
+use Rattle.std.specs.Prelude.{Option, None, Some, if◌then◌else◌}
 use Rattle.laws.proofs.Firsts.{first_fine}
 use Rattle.vec3.specs.declared.Vec3.{Vec3}
-use Rattle.vec3.specs.declared.Point.{Point}
-use Rattle.vec3.specs.declared.Point.TheVariants.{Absent, At}
-use Rattle.vec3.specs.declared.Insides.{Insides}
-use Rattle.vec3.specs.declared.Insides.TheVariants as I
 use Rattle.vec3.specs.Vec.{antipodes, mean3, pos_at}
 use Rattle.vec3.specs.Points.{triangle_mean}
 use Rattle.sizes.proofs.Unit.{Sized}
@@ -27,20 +23,20 @@ use Rattle.theorem_built.proofs.Normals.{sized_fine}
 abbrev AtMostTwo : Vec3 → Type 0
 AtMostTwo v = Sized v 2
 
-if_sized : (c : Bool) (p q : Point) → AtPoint AtMostTwo p → AtPoint AtMostTwo q → AtPoint AtMostTwo (if c then p else q)
+if_sized : (c : Bool) (p q : Option Vec3) → AtPoint AtMostTwo p → AtPoint AtMostTwo q → AtPoint AtMostTwo (if c then p else q)
 if_sized true p q h k = h
 if_sized false p q h k = k
 
 triangle_sized : (a b c : Vec3) → Sized a 2 → Sized b 2 → Sized c 2 → AtPoint AtMostTwo (triangle_mean a b c)
 unfolding triangle_mean
-triangle_sized a b c h k j = if_sized ((antipodes a b || antipodes a c) || antipodes b c) Absent (At (mean3 a b c)) tt (mean_sized a b c h k j)
+triangle_sized a b c h k j = if_sized ((antipodes a b || antipodes a c) || antipodes b c) None (Some (mean3 a b c)) tt (mean_sized a b c h k j)
 
-two_fine : (i : Insides) → InInsides AtMostTwo i → insides_fault i ≡ 0
-two_fine I.Absent h = refl
-two_fine (I.Two a b) h = first_fine _ _ (sized_fine a 2 h.0) (sized_fine b 2 h.1)
+two_fine : (i : Option (Vec3 × Vec3)) → InInsides AtMostTwo i → insides_fault i ≡ 0
+two_fine None h = refl
+two_fine (Some (a, b)) h = first_fine _ _ (sized_fine a 2 h.0) (sized_fine b 2 h.1)
 
 -- three corners need none
-cond_fine : (c : Bool) (i : Insides) → insides_fault i ≡ 0 → insides_fault (cond c i I.Absent) ≡ 0
+cond_fine : (c : Bool) (i : Option (Vec3 × Vec3)) → insides_fault i ≡ 0 → insides_fault (cond c i None) ≡ 0
 cond_fine true i h = h
 cond_fine false i h = refl
 

@@ -8,12 +8,10 @@ use lib.ListN.{length}
 use lib.Dec.{eqb, ltb}
 use lib.Ieee.{Float}
 use borrow.Author.Tests.{eqb-true, eq-eqb, le-ltb, ltb-false, ltb-true}
-use Rattle.std.specs.Prelude.{if◌then◌else◌}
+use Rattle.std.specs.Prelude.{Option, None, Some, if◌then◌else◌}
 use Rattle.laws.specs.Loop.{first, first_at, any_of}
 use Rattle.laws.proofs.Firsts.{first_zero_lem, first_fine}
 use Rattle.vec3.specs.declared.Vec3.{Vec3}
-use Rattle.vec3.specs.declared.Insides.{Insides}
-use Rattle.vec3.specs.declared.Insides.TheVariants.{Absent, Two}
 use Rattle.vec3.specs.Vec.{cleared}
 use Rattle.judge.specs.Judge.{fault_of}
 use Rattle.judge.specs.Why.{Then, stops, goes_on_lem}
@@ -70,13 +68,13 @@ if_most true x y h k = h
 if_most false x y h k = k
 
 module _ (h : Header) (ps ns : List Float) (cs : List ℕ) (f : loop_fault h ps ns cs ≡ 0) where
-  place_most : (i : Insides) (p : Vec3) → place_by i h ps ns p ≤ 2
+  place_most : (i : Option (Vec3 × Vec3)) (p : Vec3) → place_by i h ps ns p ≤ 2
   unfolding place_without
-  place_most Absent p =
+  place_most None p =
       let more : ℕ = if ltb 3 h.count then 2 else place_no_corner h.state in
       if_most (eqb h.count 3) (inside_code (in_triangle ps ns p)) more (inside_most (in_triangle ps ns p))
       (if_most (ltb 3 h.count) 2 (place_no_corner h.state) (omega arith) (no_corner_most h.state))
-  place_most (Two a b) p = inside_most (inside_with h a b ps ns p)
+  place_most (Some (a, b)) p = inside_most (inside_with h a b ps ns p)
 
   module _ (p : Vec3) (q : fault_of (cleared p) ≡ 0) where
     asked : query_fault h ps ns cs (cleared p) ≡ 0

@@ -9,15 +9,11 @@ use lib.Ieee.{Float, nan, binary64, of_bits, add, fits, lt, le, eq}
 use lib.Ieee.Bits.{of_bits-fits}
 use lib.Ieee.Fits.{nan-fits, add-fits, mul-fits}
 use Rattle.numbers.specs.F64 as F
-use Rattle.std.specs.Prelude.{if◌then◌else◌}
+use Rattle.std.specs.Prelude.{Option, None, Some, if◌then◌else◌}
 use Rattle.numbers.specs.Near.{near}
 use Rattle.root.specs.Root.{root_of}
 use Rattle.laws.specs.Loop.{iterate, flat}
 use Rattle.vec3.specs.declared.Vec3.{Vec3}
-use Rattle.vec3.specs.declared.Point.{Point}
-use Rattle.vec3.specs.declared.Point.TheVariants.{Absent, At}
-use Rattle.vec3.specs.declared.Insides.{Insides}
-use Rattle.vec3.specs.declared.Insides.TheVariants as I
 use Rattle.vec3.specs.Vec.{vec, cleared, origin, axis_z, same, dot, times, unit_vec, unit, stable_unit, orthogonal, orthogonal_to, antipodes, mean3, pos_at, coords}
 use Rattle.vec3.specs.Points.{triangle_mean}
 use Rattle.chord_length.specs.declared.ChordLength.{ChordLength}
@@ -182,18 +178,18 @@ module _ (l : List Float) where
       (grown_cap (unit s) (farthest_of l n (unit s)) (unit_clear s) (farthest_fits (unit s) n 0 negative (of_bits-fits binary64 _)))
 
 -- ---- insides
-abbrev pub KeptInsides : Insides → Type 0
+abbrev pub KeptInsides : Option (Vec3 × Vec3) → Type 0
 KeptInsides i = InInsides Clear i
 
-if_mean : (b : Bool) (p q : Point) → AtPoint Clear p → AtPoint Clear q → AtPoint Clear (if b then p else q)
+if_mean : (b : Bool) (p q : Option Vec3) → AtPoint Clear p → AtPoint Clear q → AtPoint Clear (if b then p else q)
 if_mean true p q h k = h
 if_mean false p q h k = k
 
 mean_clear : (a b c : Vec3) → AtPoint Clear (triangle_mean a b c)
 unfolding triangle_mean
-mean_clear a b c = if_mean ((antipodes a b || antipodes a c) || antipodes b c) Absent (At (mean3 a b c)) tt (unit_vec_clear _ _ _)
+mean_clear a b c = if_mean ((antipodes a b || antipodes a c) || antipodes b c) None (Some (mean3 a b c)) tt (unit_vec_clear _ _ _)
 
-cond_kept : (b : Bool) (i : Insides) → KeptInsides i → KeptInsides (cond b i I.Absent)
+cond_kept : (b : Bool) (i : Option (Vec3 × Vec3)) → KeptInsides i → KeptInsides (cond b i None)
 cond_kept true i h = h
 cond_kept false i h = tt
 

@@ -6,8 +6,8 @@ use mathlib.Core.List.{List, [], ◌++◌, append_assoc}
 use native.Mathlib.Omega.{arith}
 use lib.ListN.{length, length-append}
 use lib.Seq.{drop_at}
-use Rattle.vec3.specs.declared.Insides.{Insides}
-use Rattle.vec3.specs.declared.Insides.TheVariants.{Absent, Two}
+use Rattle.std.specs.Prelude.{Option, None, Some, is_some}
+use Rattle.vec3.specs.declared.Vec3.{Vec3}
 use Rattle.minor_arc.specs.declared.Mode.{Mode}
 use Rattle.minor_arc.specs.declared.Mode.TheVariants.{Plain, Long}
 use Rattle.loop_header.specs.declared.State.{State}
@@ -18,7 +18,7 @@ use Rattle.wire.specs.Wire.{u64_of, bytes8, floats_bytes}
 use Rattle.wire.proofs.Back.{float_back}
 use Rattle.wire.proofs.Lays.{floats_width}
 use Rattle.bytes_loop.specs.Layout.{header_size, normals_from, classes_from, loop_size, count_at, state_byte, marks_at, state_of, marked, cap_at, insides_at, mode_of, header_at}
-use Rattle.bytes_loop.specs.Layout.{positions_at, normals_at, classes_at, mark_if, are_there, is_long, marks_of, header_bytes}
+use Rattle.bytes_loop.specs.Layout.{positions_at, normals_at, classes_at, mark_if, is_long, marks_of, header_bytes}
 use Rattle.bytes_loop.proofs.Parts.{header_width}
 use Rattle.theorem_built.specs.Built.{Loop}
 use Rattle.theorem_bytes.specs.Returned.{bytes_of, loop_at}
@@ -91,14 +91,14 @@ module _ (h : Header) (r : List ℕ) where
         float_back h.cap.radius.0 [] k.radius_fits,
       )
 
-  insides_by : (i : Insides) → h.insides ≡ i → KeptInsides i → insides_at (header_bytes h ++ r) ≡ i
+  insides_by : (i : Option (Vec3 × Vec3)) → h.insides ≡ i → KeptInsides i → insides_at (header_bytes h ++ r) ≡ i
   unfolding header_bytes bytes8 u64_of insides_at
-  insides_by Absent e k = rw ((marks_back h.reversed h.weak (are_there h.insides) (is_long h.mode)).insides_is, e)
-  insides_by (Two a b) e k =
+  insides_by None e k = rw ((marks_back h.reversed h.weak (is_some h.insides) (is_long h.mode)).insides_is, e)
+  insides_by (Some (a, b)) e k =
       let c = k.0.doubles in
       let d = k.1.doubles in
       rw (
-        (marks_back h.reversed h.weak (are_there h.insides) (is_long h.mode)).insides_is,
+        (marks_back h.reversed h.weak (is_some h.insides) (is_long h.mode)).insides_is,
         e,
         float_back a.x [] c.x_fits,
         float_back a.y [] c.y_fits,
@@ -112,7 +112,7 @@ module _ (h : Header) (r : List ℕ) where
 
   pub header_back : h.count < 65536 → KeptCap h.cap → KeptInsides h.insides → header_at (header_bytes h ++ r) ≡ h
   header_back g c i =
-      let m = marks_back h.reversed h.weak (are_there h.insides) (is_long h.mode) in
+      let m = marks_back h.reversed h.weak (is_some h.insides) (is_long h.mode) in
       rw (count_back g, state_at, state_back h.state, cap_back c, insides_by h.insides refl i, marks_at_lem, m.reversed_is, m.weak_is, m.long_is, mode_back h.mode)
 
 -- ---- all of it

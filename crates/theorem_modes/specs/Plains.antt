@@ -1,9 +1,8 @@
 -- SCOPE 54, 55: in plain mode each definition that goes by the mode is what it was without one, the source's rule: a line for each. Of building the mode is stored
 -- and nothing else. Proved in proofs/Plains.antt. Definitions only.
-use Rattle.std.specs.Prelude.{ℕ, ◌+◌, ◌-◌, ◌<◌, ◌≡◌, not, ◌&&◌, ◌||◌, List, leb, Float, if◌then◌else◌}
+use Rattle.std.specs.Prelude.{ℕ, ◌+◌, ◌-◌, ◌<◌, ◌≡◌, not, ◌&&◌, ◌||◌, List, None, Some, is_some, leb, Float, if◌then◌else◌}
 use Rattle.laws.specs.Loop.{any_of, iterate}
 use Rattle.vec3.specs.declared.Vec3.{Vec3}
-use Rattle.vec3.specs.declared.Insides.TheVariants.{Absent, Two}
 use Rattle.vec3.specs.Vec.{origin, same, cleared, dot, cross, stable_unit}
 use Rattle.base.specs.Sides.{settles_right, settles_left}
 use Rattle.cap.specs.declared.Cap.{Cap}
@@ -18,7 +17,7 @@ use Rattle.arcs.specs.Answers as Arcs
 use Rattle.arcs.specs.Answers.{point_told, relation_told, intersection_told, relate_told}
 use Rattle.ring_place.specs.declared.Crossings.{Crossings}
 use Rattle.ring_place.specs.Places.{passed, pass, start, crossed_evenly, from, inside_by}
-use Rattle.ring_shape.specs.Shapes.{is_there, any_without_circle, edges_meet, end_of, meets_later, any_meets_later, simple}
+use Rattle.ring_shape.specs.Shapes.{any_without_circle, edges_meet, end_of, meets_later, any_meets_later, simple}
 use Rattle.ring_edges.specs.Edges.{edge_at}
 use Rattle.ring_pair.specs.Contacts.{is_crossing, is_touch, is_crossed, is_touched, graded, crosses, touches, any_crosses, any_touches, arc_contact, part_contact, edge_crosses, edge_touches, contact_of}
 use Rattle.loop_header.specs.declared.Header.{Header}
@@ -28,7 +27,7 @@ use Rattle.loop_ask.specs.Answers.{bool_told, judged}
 use Rattle.loop_ask.specs.Places.{cleared_cap, inside_code, inside_with, place_without, place_of}
 use Rattle.loop_ask.specs.Questions.{simple_answer, full_state, pair_fault, equivalent_loops}
 use Rattle.loop_relate.specs.Relations.{empty_state, edges_if, by_containment, lies_in, by_edges, disjoint_if, equal_if, by_caps, by_states, relate_answer, searched}
-use Rattle.bytes_loop.specs.Layout.{marks_at, header_at, mark_if, are_there, marks_of}
+use Rattle.bytes_loop.specs.Layout.{marks_at, header_at, mark_if, marks_of}
 
 -- ---- arcs: crates minor_arc, arc_relations and arcs
 pub record OfArcs : Type 0 where
@@ -46,7 +45,7 @@ pub record OfRings : Type 0 where
   pub plain_crossings : (arc : MinorArc) (ps ns : List Float) (n : ℕ) → crossed_evenly Plain arc ps ns n ≡ (iterate (pass Plain arc ps ns n) n 0 start).even
   pub plain_inside : (cap : Cap) (a b : Vec3) (ps ns : List Float) (n : ℕ) (p : Vec3)
       → inside_by Plain cap a b ps ns n p ≡ (contains cap p && (same p a || same p b || crossed_evenly Plain (arc_of (from a b p) p) ps ns n))
-  pub plain_edges_meet : (ps ns : List Float) (n i j : ℕ) → edges_meet Plain ps ns n i j ≡ is_there (meeting_point (meeting_of Plain (edge_at ps ns n i) (edge_at ps ns n j)))
+  pub plain_edges_meet : (ps ns : List Float) (n i j : ℕ) → edges_meet Plain ps ns n i j ≡ is_some (meeting_point (meeting_of Plain (edge_at ps ns n i) (edge_at ps ns n j)))
   pub plain_meets_later : (ps ns : List Float) (n i : ℕ) → meets_later Plain ps ns n i ≡ any_of (edges_meet Plain ps ns n i) (end_of n i - (i + 2)) (i + 2)
   pub plain_any_meets_later : (ps ns : List Float) (n : ℕ) → any_meets_later Plain ps ns n ≡ any_of (meets_later Plain ps ns n) (n - 1) 0
   pub plain_simple : (ps ns : List Float) (n : ℕ) → simple Plain ps ns n ≡ (not (any_without_circle ps n) && (leb n 3 || not (any_meets_later Plain ps ns n)))
@@ -68,9 +67,9 @@ pub record OfPairs : Type 0 where
 -- ---- loops whose header says plain: crates loop_ask and loop_relate
 pub record OfLoops (h : Header) (ps ns : List Float) (cs : List ℕ) : Type 0 where
   pub plain_inside_with : (a b p : Vec3) → inside_with h a b ps ns p ≡ inside_by Plain (cleared_cap h.cap) (cleared a) (cleared b) ps ns h.count p
-  pub plain_place : (a b p : Vec3) → h.insides ≡ Two a b
+  pub plain_place : (a b p : Vec3) → h.insides ≡ Some (a, b)
       → place_of h ps ns p ≡ inside_code (inside_by Plain (cleared_cap h.cap) (cleared a) (cleared b) ps ns h.count p)
-  pub plain_place_without : (p : Vec3) → h.insides ≡ Absent → place_of h ps ns p ≡ place_without h ps ns p
+  pub plain_place_without : (p : Vec3) → h.insides ≡ None → place_of h ps ns p ≡ place_without h ps ns p
   pub plain_simple : simple_answer h ps ns cs ≡ judged (loop_fault h ps ns cs) (bool_told (simple Plain ps ns h.count))
   pub plain_by_edges : (o : Header) (qs ms : List Float)
       → by_edges h ps ns o qs ms
@@ -105,7 +104,7 @@ pub record OfBuilding : Type 0 where
 -- ---- bytes: crate bytes_loop
 pub record OfBytes : Type 0 where
   -- a plain header has the three marks that there were
-  pub plain_marks : (h : Header) → h.mode ≡ Plain → marks_of h ≡ mark_if h.reversed 1 + mark_if h.weak 2 + mark_if (are_there h.insides) 4
+  pub plain_marks : (h : Header) → h.mode ≡ Plain → marks_of h ≡ mark_if h.reversed 1 + mark_if h.weak 2 + mark_if (is_some h.insides) 4
   -- and marks of these alone are read as a plain header's
   pub plain_read : (s : List ℕ) → marks_at s < 8 → (header_at s).mode ≡ Plain
 

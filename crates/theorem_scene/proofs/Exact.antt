@@ -11,14 +11,14 @@ use borrow.Author.Tests.{lt-ltb, ltb-true}
 use Rattle.loop_build.specs.Build as B
 use Rattle.loop_ask.specs.Answers as Ask
 use Rattle.scene_store.specs.Store.{pair_in}
-use Rattle.scene_far.specs.declared.Said.{Said}
-use Rattle.scene_far.specs.declared.Said.TheVariants as Said
+use Rattle.scene_far.specs.Said.{Said}
+use Rattle.scene_far.specs.Said as Said
 use Rattle.scene_records.specs.declared.Fault.{Fault}
 use Rattle.scene_records.specs.declared.Fault.TheVariants.{CutShort, UnknownKind, WrongLength, NoNumber, Repeated, NotMet, ManyAreas, ManyPositions}
 use Rattle.scene_records.specs.declared.Read.{Read}
 use Rattle.scene_records.specs.Records.{u16_of, body_field, number_field, read_at, fault_number}
-use Rattle.scene_notes.specs.declared.Judged.{Judged}
-use Rattle.scene_notes.specs.declared.Judged.TheVariants.{Bad}
+use Rattle.scene_notes.specs.Judged.{Judged}
+use Rattle.scene_notes.specs.Judged.{Bad}
 use Rattle.scene_notes.specs.Noted.{Scene, judge_area, judge_named}
 use Rattle.scene_steps.specs.Steps.{Step, ended, faulty, refused, refused_at, wrote, of_positions, refusal, area_told, area_out, area_made, area_by, area_step, met}
 use Rattle.scene_steps.specs.Steps.{place_told, said_of, place_met, place_by, place_step, pair_told, pair_met, pair_by, pair_step, step_by, step}

@@ -13,8 +13,7 @@ use Rattle.scene_store.specs.declared.Area.{Area}
 use Rattle.scene_store.specs.Store.{nobody}
 use Rattle.scene_records.specs.declared.Fault.TheVariants.{NoNumber, Repeated, NotMet, ManyAreas, ManyPositions}
 use Rattle.scene_records.specs.Records.{length_field, body_field, number_field}
-use Rattle.scene_notes.specs.declared.Judged.{Judged}
-use Rattle.scene_notes.specs.declared.Judged.TheVariants.{Fine, Bad}
+use Rattle.scene_notes.specs.Judged.{Judged, Fine, Bad}
 use Rattle.scene_notes.specs.Noted.{index_of, judge_area, is_zero, first_zero, is_unmet, judge_numbers, judge_named}
 use Rattle.theorem_scene.specs.Why.{Met, Unmet, NonZero}
 

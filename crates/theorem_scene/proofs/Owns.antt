@@ -31,11 +31,10 @@ use Rattle.scene_records.specs.declared.Read.{Read}
 use Rattle.scene_records.specs.Records.{u16_of, floats_at, read_at}
 use Rattle.scene_store.specs.Store.{corners, codes, built_at, place_in, pair_in}
 use Rattle.scene_store.proofs.Counts.{floats_count}
-use Rattle.scene_far.specs.declared.Said.{Said}
-use Rattle.scene_far.specs.declared.Said.TheVariants as Said
+use Rattle.scene_far.specs.Said.{Said}
+use Rattle.scene_far.specs.Said as Said
 use Rattle.scene_far.proofs.Refusals.{said_refused}
-use Rattle.scene_notes.specs.declared.Judged.{Judged}
-use Rattle.scene_notes.specs.declared.Judged.TheVariants.{Fine, Bad}
+use Rattle.scene_notes.specs.Judged.{Judged, Fine, Bad}
 use Rattle.scene_notes.specs.Noted.{Scene, index_of, judge_area, judge_named}
 use Rattle.scene_notes.proofs.Tables.{allowed, all_met}
 use Rattle.scene_steps.specs.Steps.{Step, ended, faulty, refused, refused_at, wrote, refusal, refused_index, passed_by, area_told, area_out, area_made, area_by, area_step, met}

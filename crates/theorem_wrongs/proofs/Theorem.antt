@@ -6,14 +6,13 @@ use mathlib.Core.Bool.{true, false}
 use mathlib.Core.List.{List, [], ◌∷◌}
 use lib.ListN.{get_or, replicate}
 use lib.Ieee.{Float, binary64, to_bits, nan}
+use Rattle.std.specs.Prelude.{Ok}
 use denote.MutBor.{MutBor}
 use denote.Ref.{Bor}
+use Rattle.std.specs.Prelude.{Option, None, Some}
 use Rattle.outcomes.specs.Outcomes.{One}
 use Rattle.numbers.specs.F64.{zero}
-use Rattle.vec3.specs.declared.Insides.{Insides}
-use Rattle.vec3.specs.declared.Insides.TheVariants.{Absent, Two}
-use Rattle.vec3.specs.declared.Point.{Point}
-use Rattle.vec3.specs.declared.Point.TheVariants as Points
+use Rattle.vec3.specs.declared.Vec3.{Vec3}
 use Rattle.vec3.specs.Vec.{axis_x, axis_y, axis_z}
 use Rattle.vec3.specs.Points.{midpoint}
 use Rattle.base.specs.declared.Side.{Side}
@@ -28,7 +27,6 @@ use Rattle.loop_build.specs.Build as Build
 use Rattle.loop_ask.specs.Answers as Answers
 use Rattle.loop_ask.specs.Questions.{place_answer}
 use Rattle.loop_triangles.proofs.triangulate as Triangulate
-use Rattle.loop_triangles.specs.declared.Cut.TheVariants.{Triangles}
 use Rattle.loop_triangles.specs.Triangles.{Outcome, triangulate_outcome}
 use Rattle.loop_relate.specs.Relations.{relate_answer}
 use Rattle.theorem_settled.specs.Settled.{at, built, blank, blank_classes, area_1, four_corners, four_built, four_checked, full_one_lem, empty_one_lem, related}
@@ -60,13 +58,13 @@ side Left = 0
 side Right = 1
 side Collinear = 2
 
-abbrev inner : Insides → ℕ
-inner Absent = 0
-inner (Two a b) = 1
+abbrev inner : Option (Vec3 × Vec3) → ℕ
+inner None = 0
+inner (Some (a, b)) = 1
 
-abbrev there : Point → ℕ
-there Points.Absent = 0
-there (Points.At p) = 1
+abbrev there : Option Vec3 → ℕ
+there None = 0
+there (Some p) = 1
 
 -- the bits of the float numbered i
 abbrev bits : List Float → ℕ → ℕ
@@ -177,7 +175,7 @@ of_building = record {
   flat_empty = λ e. above 1 0 0 refl (ap state_code e);
   ring_kept = λ e. above 1 0 0 refl (ap sure (of_ring four_corners_built (λ o. (header o).reversed ≡ false) e));
   normals_worked_out_again = λ e. below 0x3ff0_0000_0000_0000 0xbff0_0000_0000_0000 0x7fff_ffff_ffff_ffff refl (ap (λ l. bits l 5) (of_ring repeated_built (λ o. o.normals ≡ edge_normals o.positions 4) e));
-  triangle_with_insides = λ a b e. below 0 1 0 refl (ap inner (of_ring area_1_built (λ o. (header o).insides ≡ Two a b) e));
+  triangle_with_insides = λ a b e. below 0 1 0 refl (ap inner (of_ring area_1_built (λ o. (header o).insides ≡ Some (a, b)) e));
 }
 
 of_asking : OfAsking
@@ -277,7 +275,7 @@ of_contracts = record { buffer_left_open = left_open }
   where
     left_open : One Triangulate.Kinds.ps Triangulate.Kinds.r answer_alone → ⊥
     left_open one =
-        let same = one ([], ([], ([], tt))) (empty_header Plain, (lent [], (lent [], (lent_out (0 ∷ []), tt)))) (Triangles 0) (Triangles 0) (tt, (tt, (tt, (0 ∷ [], tt)))) (tt, (tt, (tt, (1 ∷ [], tt)))) refl refl in
+        let same = one ([], ([], ([], tt))) (empty_header Plain, (lent [], (lent [], (lent_out (0 ∷ []), tt)))) (Ok 0) (Ok 0) (tt, (tt, (tt, (0 ∷ [], tt)))) (tt, (tt, (tt, (1 ∷ [], tt)))) refl refl in
         below 0 1 0 refl (ap (λ t. get_or t.1.1.1.0 0 9) same.1)
 
 pub wrongs : Wrongs

@@ -1,10 +1,9 @@
 -- Wrong programs of the two modes (SCOPE 54 to 57): each gives, at one input, another answer than the definition. Proved in proofs/Modes.antt. Definitions only.
-use Rattle.std.specs.Prelude.{ℕ, pos, ◌≡◌, true, false, List, [], ◌∷◌, ◌++◌, get_or, replicate, Float}
+use Rattle.std.specs.Prelude.{ℕ, pos, ◌≡◌, true, false, List, [], ◌∷◌, None, ◌++◌, get_or, replicate, Float}
 use Rattle.std.specs.Float.{binary64, nan}
 use Rattle.std.specs.Float.Ieee.{of_bits}
 use Rattle.numbers.specs.F64.{zero}
 use Rattle.vec3.specs.declared.Vec3.{Vec3}
-use Rattle.vec3.specs.declared.Insides.TheVariants.{Absent}
 use Rattle.vec3.specs.Vec.{axis_x, axis_y, axis_z, opposite, coords}
 use Rattle.chord_length.specs.Chords.{squared}
 use Rattle.cap.specs.declared.Cap.{Cap}
@@ -53,7 +52,7 @@ long_four l = Build.build_outcome Long l (blank 4) (blank 4) (blank_classes 4)
 
 -- a long header of no loop that was built
 abbrev pub long_header : ℕ → State → Cap → Header
-long_header count state cap = record { count = count; state = state; cap = cap; insides = Absent; reversed = false; weak = false; mode = Long }
+long_header count state cap = record { count = count; state = state; cap = cap; insides = None; reversed = false; weak = false; mode = Long }
 
 -- a cap with a radius NaN
 abbrev pub no_cap : Cap

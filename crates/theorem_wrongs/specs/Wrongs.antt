@@ -1,6 +1,6 @@
 -- Named wrong programs: each gives, at one input, an answer that no program which meets the contract can give, since the definition that the contract
 -- cites has another answer there. docs/SCOPE.md, "Wrong programs", names the five empty programs and the traps. Proved in proofs/Theorem.antt. Definitions only.
-use Rattle.std.specs.Prelude.{ℕ, zero, suc, ◌+◌, ◌-◌, ◌%◌, ◌≡◌, false, cond, List, [], ◌∷◌, ◌++◌, ltb, length, replicate, Float}
+use Rattle.std.specs.Prelude.{ℕ, zero, suc, ◌+◌, ◌-◌, ◌%◌, ◌≡◌, false, cond, List, [], ◌∷◌, None, Some, ◌++◌, ltb, length, replicate, Float}
 use Rattle.std.specs.Float.{binary64, nan}
 use Rattle.std.specs.Float.Ieee.{of_bits}
 use borrow.Fn.Kinds.{Out}
@@ -12,8 +12,6 @@ use Rattle.numbers.specs.Near.{near}
 use Rattle.root.specs.Root.{root_of}
 use Rattle.angle.specs.Arctan.{atan2}
 use Rattle.vec3.specs.declared.Vec3.{Vec3}
-use Rattle.vec3.specs.declared.Insides.TheVariants.{Absent, Two}
-use Rattle.vec3.specs.declared.Point.TheVariants.{At}
 use Rattle.vec3.specs.Vec.{axis_x, axis_y, axis_z, opposite, pos_at, coords}
 use Rattle.vec3.specs.Points.{midpoint}
 use Rattle.base.specs.declared.Side.TheVariants.{Left, Right}
@@ -218,8 +216,8 @@ pub record OfNumbers : Type 0 where
   -- an arctangent whose operands are exchanged
   pub arctangent_exchanged : atan2 F64.one F64.zero ≡ atan2 F64.zero F64.one → ⊥
   -- a midpoint of antipodes, and one whose vector is zero though its ends are none
-  pub midpoint_of_antipodes : (p : Vec3) → midpoint axis_x (opposite axis_x) ≡ At p → ⊥
-  pub midpoint_without_length : (p : Vec3) → midpoint axis_x (at (of_bits binary64 0xbff0_0000_0000_0000) tiny F64.zero) ≡ At p → ⊥
+  pub midpoint_of_antipodes : (p : Vec3) → midpoint axis_x (opposite axis_x) ≡ Some p → ⊥
+  pub midpoint_without_length : (p : Vec3) → midpoint axis_x (at (of_bits binary64 0xbff0_0000_0000_0000) tiny F64.zero) ≡ Some p → ⊥
 
 -- ---- building
 pub record OfBuilding : Type 0 where
@@ -236,7 +234,7 @@ pub record OfBuilding : Type 0 where
   -- normals worked out again from the reversed corners, and not negated: for the edge from Y to Y both ways give the same one
   pub normals_worked_out_again : (built repeated 4).normals ≡ edge_normals (built repeated 4).positions 4 → ⊥
   -- insides of a triangle
-  pub triangle_with_insides : (a b : Vec3) → (header (built area_1 3)).insides ≡ Two a b → ⊥
+  pub triangle_with_insides : (a b : Vec3) → (header (built area_1 3)).insides ≡ Some (a, b) → ⊥
 
 -- ---- asking
 pub record OfAsking : Type 0 where
@@ -295,7 +293,7 @@ pub record OfRelating : Type 0 where
 -- ---- of a mute loop
 -- the header of a ring without its insides
 abbrev pub muted : Header → Header
-muted h = record { count = h.count; state = h.state; cap = h.cap; insides = Absent; reversed = h.reversed; weak = h.weak; mode = h.mode }
+muted h = record { count = h.count; state = h.state; cap = h.cap; insides = None; reversed = h.reversed; weak = h.weak; mode = h.mode }
 
 -- how a ring with its header changed stands to another; the ring of four corners
 abbrev pub between : (Header → Header) → Build.Outcome → Build.Outcome → Told

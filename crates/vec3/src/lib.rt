@@ -2,8 +2,9 @@
 // Positions (n-vectors) are such vectors. Every function is total on every float.
 #![tactic(auto)]
 
-ghost use Rattle.std.specs.Prelude.{◌≡◌, ◌+◌, ◌*◌, ◌<◌, length};
+ghost use Rattle.std.specs.Prelude.{ℕ, ◌≡◌, ◌++◌, ◌+◌, ◌*◌, ◌≤◌, ◌<◌, length, drop};
 ghost use Rattle.std.proofs.lemmas.List.Edits.{sets};
+ghost use Rattle.laws.specs.Loop.{flat};
 ghost use Rattle.vec3.specs.Vec.{vec, cleared, same, dot, product, cross, plus, minus, opposite, times, unit_vec, unit, cross_unit, stable_cross, stable_unit, axis_for, orthogonal, orthogonal_to, antipodes, mean3, pos_at, raw_at, coords};
 ghost use Rattle.vec3.specs.Points.{triangle_mean, midpoint};
 ghost use Rattle.root.specs.Root.{root_of};
@@ -15,21 +16,8 @@ pub struct Vec3 {
     pub z: f64,
 }
 
-// A point, or none.
-#[derive(Clone, Copy)]
-pub enum Point {
-    Absent,
-    At(Vec3),
-}
-
-// Two positions inside a ring, or none.
-#[derive(Clone, Copy)]
-pub enum Insides {
-    Absent,
-    Two(Vec3, Vec3),
-}
-
 // The axis that `orthogonal` crosses with, by the sizes of the components: one that is away from the largest.
+#[tactic(auto, unfolding(crate::specs::Vec::axis_for))]
 fn axis(x: f64, y: f64, z: f64) -> Vec3
     ensures { result ≡ axis_for x y z }
 {
@@ -144,6 +132,7 @@ impl Vec3 {
     }
 
     // At unit length; the zero vector where the norm rounds to 0.
+    #[tactic(auto, unfolding(crate::specs::Vec::unit_vec))]
     pub fn new_unit(vx: f64, vy: f64, vz: f64) -> Vec3
         ensures { result ≡ unit_vec vx vy vz }
     {
@@ -162,6 +151,7 @@ impl Vec3 {
         root::root(self.squared_norm())
     }
 
+    #[tactic(auto, unfolding(crate::specs::Vec::unit))]
     pub fn unit(self) -> Vec3
         ensures { result ≡ unit self }
     {
@@ -218,6 +208,7 @@ impl Vec3 {
     }
 
     // The stable cross product, or `orthogonal` where that is exactly zero.
+    #[tactic(auto, unfolding(crate::specs::Vec::orthogonal_to))]
     pub fn orthogonal_to(self, o: Vec3) -> Vec3
         ensures { result ≡ orthogonal_to self o }
     {
@@ -248,25 +239,27 @@ impl Vec3 {
     }
 
     // The mean of a triangle's corners, unless two of them are antipodes.
-    pub fn triangle_mean(self, b: Vec3, c: Vec3) -> Point
+    #[tactic(auto, unfolding(crate::specs::Points::triangle_mean))]
+    pub fn triangle_mean(self, b: Vec3, c: Vec3) -> Option<Vec3>
         ensures { result ≡ triangle_mean self b c }
     {
         if self.is_antipode_of(b) | self.is_antipode_of(c) | b.is_antipode_of(c) {
-            Point::Absent
+            None
         } else {
-            Point::At(self.mean(b, c))
+            Some(self.mean(b, c))
         }
     }
 
     // The midpoint that stands in for the source's, which needs a sine: the unit vector of the sum, unless the two are antipodes or it is zero.
-    pub fn midpoint(self, o: Vec3) -> Point
+    #[tactic(auto, unfolding(crate::specs::Points::midpoint, crate::specs::Vec::unit_vec))]
+    pub fn midpoint(self, o: Vec3) -> Option<Vec3>
         ensures { result ≡ midpoint self o }
     {
         let m = Vec3::new_unit(self.x + o.x, self.y + o.y, self.z + o.z);
         if self.is_antipode_of(o) | m.equals(Vec3::ZERO) {
-            Point::Absent
+            None
         } else {
-            Point::At(m)
+            Some(m)
         }
     }
 }
@@ -276,7 +269,7 @@ pub fn at(ps: &[f64], i: usize) -> Vec3
     requires { 3 * i + 2 < length ps.now }
     ensures { result ≡ pos_at ps.now i }
 {
-    Vec3::new(ps[3 * i], ps[3 * i + 1], ps[3 * i + 2])
+    raw(ps, i).clear()
 }
 
 // The vector numbered i of a work array of our own, as it stands.
@@ -299,4 +292,15 @@ pub fn put(ps: &mut [f64], i: usize, v: Vec3)
     ps[3 * i] = v.x;
     ps[3 * i + 1] = v.y;
     ps[3 * i + 2] = v.z;
+}
+
+// Writes n vectors by their index, into the front of a lent list: what f is shown to compute at each index stands there.
+pub fn put_each<F: Fn(usize) -> Vec3>(ps: &mut [f64], n: usize, f: F)
+    requires room { 3 * n ≤ length ps.old }
+    requires callable { (i : ℕ) → i < n → F.pre f i }
+    ensures { (g : ℕ → _) → ((i : ℕ) (v : _) → i < n → F.post f i v → v ≡ g i) → ps.new ≡ flat (λ i. coords (g i)) n 0 ++ drop (3 * n) ps.old }
+{
+    for i in 0..n {
+        put(ps, i, f(i));
+    }
 }

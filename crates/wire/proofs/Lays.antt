@@ -1,14 +1,18 @@
 -- A loop that lays blocks of w elements one after the other, from an offset on. Assumes nothing.
-use Prim.Native.Nat.{ℕ, zero, suc, ◌+◌, ◌*◌, ◌≤◌, ◌<◌}
+use Prim.Native.Nat.{ℕ, zero, suc, ◌+◌, ◌-◌, ◌*◌, ◌≤◌, ◌<◌}
 use mathlib.Core.Path.{◌≡◌, refl, ap, ◌∙◌}
 use mathlib.Core.List.{List, ◌++◌, append_assoc, append-nil}
 use native.Mathlib.Nat.{add-zero, zero-add}
 use native.Mathlib.Numerals.{add-one}
 use native.Mathlib.Omega.{arith}
-use lib.ListN.{length, length-append}
+use lib.ListN.{length, take, drop, length-append}
 use lib.Seq.{sets, length-sets}
+use borrow.Rule.Slice.PartMut.{put_mid}
+use Rattle.std.proofs.lemmas.List.{drop-drop}
+use Rattle.std.proofs.lemmas.List.Edits.{sets-eq}
 use Rattle.laws.specs.Loop.{flat}
-use Rattle.laws.proofs.Copies.{one, copied, length_flat}
+use Rattle.laws.proofs.Copies.{length_flat}
+use Rattle.laws.proofs.Rests.{rest, back}
 use lib.Ieee.{Float}
 use Rattle.vec3.specs.declared.Vec3.{Vec3}
 use Rattle.wire.specs.Wire.{vec_size, float_block, floats_at, number_block, numbers_at, vec_bytes, float_bytes_at, floats_bytes}
@@ -47,9 +51,10 @@ module _ {A : Type 0} {w at : ℕ} {f : ℕ → List A} {n i : ℕ} {d₀ d : Li
   pub lay_end : n ≤ i → d ≡ sets d₀ at (flat f n 0)
   lay_end h = let e : i ≡ n = omega (arith, t.within) in rw e at t.laid
 
--- a list that is copied
-pub copy_laid : {A : Type 0} (z : A) (l : List A) {at i : ℕ} {d₀ d : List A} → Lay 1 at (one z l) (length l) i d₀ d → length l ≤ i → d ≡ sets d₀ at l
-copy_laid z l t h = rw (copied z l) at (lay_end t h)
+-- a list that is copied to the front of what is lent from an offset on
+pub put_rest : {A : Type 0} (vs l : List A) (at : ℕ) {m : List A} → at + length vs ≤ length l
+    → m ≡ vs ++ drop (length vs) (take (length l - at) (drop at l)) → put_mid at (length l - at) l m ≡ sets l at vs
+put_rest vs l at h e = rw (e, rest at l, back at l _, drop-drop (length vs) at l, sets-eq vs l at h, append_assoc)
 
 -- two stores in a row
 pub two : {A : Type 0} {x y : List A} (l a b : List A) (i k : ℕ) → x ≡ sets l i a → y ≡ sets x k b → i + length a ≡ k → y ≡ sets l i (a ++ b)

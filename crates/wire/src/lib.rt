@@ -34,6 +34,7 @@ pub fn u32_at(s: &[u8], at: usize) -> u64
     u16_at(s, at) + 65536 * u16_at(s, at + 2)
 }
 
+#[tactic(auto, unfolding(crate::specs::Wire::u64_of))]
 pub fn u64_at(s: &[u8], at: usize) -> u64
     requires { at + 8 ≤ length s.now }
     ensures { result ≡ u64_of s.now at }
@@ -42,6 +43,7 @@ pub fn u64_at(s: &[u8], at: usize) -> u64
 }
 
 // The float of a pattern. A NaN's pattern is told first, since `from_bits` is for the others alone.
+#[tactic(auto, using(crate::proofs::Bytes::nan_pattern, crate::proofs::Bytes::no_nan_pattern))]
 pub fn of_bits(b: u64) -> f64
     ensures { result ≡ of_bits binary64 b }
 {
@@ -53,6 +55,7 @@ pub fn of_bits(b: u64) -> f64
 }
 
 // The pattern of a float: 7FF8000000000000 for a NaN, which has none of its own.
+#[tactic(auto, using(root::proofs::Floats::not_nan, crate::proofs::Bytes::nan_bits_lem))]
 pub fn to_bits(x: f64) -> u64
     ensures { result ≡ to_bits binary64 x }
 {
@@ -87,6 +90,7 @@ pub fn put_u16(out: &mut [u8], at: usize, n: u64)
     out[at + 1] = (n / 256 % 256) as u8;
 }
 
+#[tactic(auto, unfolding(crate::specs::Wire::bytes8))]
 pub fn put_u64(out: &mut [u8], at: usize, n: u64)
     requires { at + 8 ≤ length out.old }
     ensures { out.new ≡ sets out.old at (bytes8 n) }
@@ -104,6 +108,7 @@ pub fn put_float(out: &mut [u8], at: usize, x: f64)
     put_u64(out, at, to_bits(x));
 }
 
+#[tactic(auto, using(crate::proofs::Bytes::three, crate::proofs::Bytes::eight))]
 pub fn put_vec(out: &mut [u8], at: usize, v: Vec3)
     requires { at + vec_size ≤ length out.old }
     ensures { out.new ≡ sets out.old at (vec_bytes v) }
@@ -146,9 +151,7 @@ pub fn put_bytes(out: &mut [u8], at: usize, from: &[u8])
     requires { at + length from.now ≤ length out.old }
     ensures { out.new ≡ sets out.old at from.now }
 {
-    for i in 0..from.len() {
-        out[at + i] = from[i];
-    }
+    copies::copy_front(from, &mut out[at..]);
 }
 
 fn wide_number(n: u16) -> u64

@@ -1,8 +1,0 @@
-use Rattle.vec3.proofs.Vec3.cross_prod_unit.Statement.{statement}
-use Rattle.vec3.proofs.Vec3.cross_prod_unit.Tie as tie
-
-pub cross_prod_unit_spec : {M : Type 1} → statement M
-cross_prod_unit_spec =
-    tie.close
-    (tie.spec (λ c κs. tt) (λ c κs. tt)
-    (λ c. simp (c.new_unit.ensures, c.before.crossed-p.ensures)))

@@ -35,8 +35,8 @@ pub fn write_acutes(ts: &[f64], k: usize, out: &mut [f64])
     requires { (k ≤ 512) × (length ts.now ≡ k) × (length out.old ≡ k) }
     ensures { out.new ≡ Atn.acutes ts.now k }
 {
-    for j in 0..k {
-        out[j] = angle::acute(ts[j]);
+    for (j, u) in out.iter_mut().enumerate() {
+        *u = angle::acute(ts[j]);
     }
 }
 

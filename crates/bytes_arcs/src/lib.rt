@@ -66,7 +66,7 @@ fn ends_judged(start: &[u8], end: &[u8]) -> Result<(), Refusal>
     size_fault(end, 24)
 }
 
-// What an answer without values comes to; a side's code has no sign here.
+// What an answer without values comes to; a side's code has no sign here, and is not its index among the variants.
 fn sided(s: Result<Side, Refusal>) -> u32
     ensures { result ≡ Arcs.number_of (Answers.told_sided s) }
 {
@@ -83,12 +83,12 @@ fn held(c: Result<bool, Refusal>) -> u32
 {
     match c {
         Err(r) => refusal(r),
-        Ok(false) => 0,
-        Ok(true) => 1,
+        Ok(within) => within as u32,
     }
 }
 
-// A position or an arc written for an answer, or refusal 5 where there is no room for it.
+// A position or an arc written for an answer, or refusal 5 where there is no room for it. They stay two: one for both would go over a list of vectors by a loop, in
+// place of the four writes.
 #[tactic(auto, using(crate::proofs::Writes::no_room, crate::proofs::Writes::room, crate::proofs::Writes::one_written))]
 fn leave_point(out: &mut [u8], number: u32, p: Vec3) -> u32
     ensures { outcome result out.new ≡ Arcs.leave (Answers.answer (pos number) (p ∷ [])) out.old }

@@ -11,6 +11,7 @@ use loop_ask::Place;
 use loop_header::Header;
 use vec3::Vec3;
 
+// Which question C asked: each case is one of its functions, and `told_at` is stated by it.
 #[derive(Clone, Copy)]
 pub enum Question {
     Place,
@@ -27,20 +28,17 @@ pub fn tell(answer: Result<u32, Refusal>) -> u32
     answer.unwrap_or_else(bytes_loop::refusal)
 }
 
+// A place's number, as C reads it, is its index among the variants.
 fn placed(p: Place) -> u32
     ensures { result ≡ An.place_code p }
 {
-    match p {
-        Place::Outside => 0,
-        Place::Inside => 1,
-        Place::Mute => 2,
-    }
+    p as u32
 }
 
 pub fn answered(yes: bool) -> u32
     ensures { An.answer result ≡ An.bool_told yes }
 {
-    if yes { 1 } else { 0 }
+    yes as u32
 }
 
 // The refusal of a position whose length is wrong: the loop's own, or else 1.
@@ -79,11 +77,8 @@ fn needs_position(q: Question) -> bool
     ensures { result ≡ As.needs_position q }
 {
     match q {
-        Question::Place => true,
-        Question::Vertex => true,
-        Question::OnEdge => true,
-        Question::Convex => false,
-        Question::Simple => false,
+        Question::Place | Question::Vertex | Question::OnEdge => true,
+        Question::Convex | Question::Simple => false,
     }
 }
 
@@ -138,6 +133,7 @@ fn asked(q: Question, s: &[u8], position: &[u8]) -> Result<u32, Refusal>
 {
     bytes_loop::copy_fault(s)?;
     let size = 3 * bytes_loop::count_at(s);
+    // Work arrays of the largest loop's size with a length beside them: there is no heap.
     let mut positions = [0.0f64; 1536];
     let mut normals = [0.0f64; 1536];
     ask_in(q, s, position, &mut positions[..size], &mut normals[..size])

@@ -10,13 +10,6 @@ use judge::Refusal;
 use loop_header::Header;
 use minor_arc::Mode;
 
-// A count that is answered, or what is refused, as a caller is told it.
-fn tell(answer: Result<u32, Refusal>) -> u32
-    ensures { result ≡ Bu.number_told answer }
-{
-    answer.unwrap_or_else(bytes_loop::refusal)
-}
-
 // A loop written into bytes that have room for it, or refusal 5 where they cannot hold its header.
 #[tactic(auto, using(crate::proofs::Builds::parts), unfolding(crate::specs::Build::loop_outcome))]
 fn leave_loop(
@@ -84,6 +77,7 @@ fn built(mode: Mode, list: &[u8], out: &mut [u8]) -> Result<u32, Refusal>
     let given = 3 * m;
     let n = bytes_loop::corners_for(out.len());
     let size = 3 * n;
+    // Work arrays of the largest loop's size with a length beside them: there is no heap.
     let mut floats = [0.0f64; 1536];
     let mut positions = [0.0f64; 1536];
     let mut normals = [0.0f64; 1536];
@@ -103,7 +97,7 @@ fn built(mode: Mode, list: &[u8], out: &mut [u8]) -> Result<u32, Refusal>
 pub fn build(mode: Mode, list: &[u8], out: &mut [u8]) -> u32
     ensures { outcome result out.new ≡ Bu.build_outcome mode list.now out.old }
 {
-    tell(built(mode, list, out))
+    built(mode, list, out).unwrap_or_else(bytes_loop::refusal)
 }
 
 // `build_floats` before it is told: the header's room is judged ahead of any writing.
@@ -139,5 +133,7 @@ pub fn build_floats(
     ensures { record { number = result; header = header.new; positions = positions.new; normals = normals.new; classes = classes.new }
         ≡ Bu.floats_outcome mode list.now header.old positions.old normals.old classes.old }
 {
-    tell(built_floats(mode, list, header, positions, normals, classes))
+    built_floats(mode, list, header, positions, normals, classes).unwrap_or_else(
+        bytes_loop::refusal,
+    )
 }

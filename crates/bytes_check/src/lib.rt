@@ -57,6 +57,7 @@ fn accepted(s: &[u8], list: &[u8]) -> Result<bool, Refusal>
     list_fault(s, list.len())?;
     let size = 3 * bytes_loop::count_at(s);
     let count = numbers_for(list.len());
+    // Work arrays of the largest loop's and list's size with a length beside them: there is no heap.
     let mut positions = [0.0f64; 1536];
     let mut numbers = [0u16; 1533];
     accepts_in(s, list, &mut positions[..size], &mut numbers[..count])

@@ -61,6 +61,7 @@ fn cut_parts(h: Header, positions: &[f64], classes: &[u8], out: &mut [u8]) -> Re
         return Err(Refusal::NoRoom);
     }
     let size = 3 * m;
+    // A work array of the largest loop's size with a length beside it, here and in `cut_loop`: there is no heap.
     let mut triples = [0u16; 1530];
     cut_into(h, positions, classes, &mut triples[..size], out)
 }

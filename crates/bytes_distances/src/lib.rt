@@ -39,7 +39,7 @@ fn leave(out: &mut [u8], d: Result<ChordLength, Refusal>) -> u32
     }
 }
 
-// The same as one float.
+// The same as one float. It stays beside the bytes' own: one for both would take the write and its room as closures, and have to say in its contract what they leave.
 #[tactic(auto, using(crate::proofs::Fars::no_float, crate::proofs::Fars::a_float))]
 fn leave_float_chord(out: &mut [f64], c: ChordLength) -> u32
     ensures { outcome result out.new ≡ Far.leave_float (chord c) out.old }
@@ -108,6 +108,7 @@ fn told(s: &[u8], position: &[u8]) -> Result<ChordLength, Refusal>
 {
     bytes_loop::copy_fault(s)?;
     let size = 3 * bytes_loop::count_at(s);
+    // Work arrays of the largest loop's size with a length beside them: there is no heap.
     let mut positions = [0.0f64; 1536];
     let mut normals = [0.0f64; 1536];
     told_in(s, position, &mut positions[..size], &mut normals[..size])

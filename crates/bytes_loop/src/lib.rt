@@ -24,19 +24,19 @@ pub fn refusal(r: Refusal) -> u32
     65536 + r.number() as u32
 }
 
+// A state's byte, as C reads it. No `From`: it would stand in loop_header, which knows of no bytes, and a byte above 2 is a ring only until it is judged.
+#[tactic(auto, unfolding(crate::specs::Layout::state_of))]
 fn state_of(code: u8) -> State
     ensures { result ≡ F.state_of code }
 {
-    if code == 0 {
-        return State::Empty;
+    match code {
+        0 => State::Empty,
+        1 => State::Full,
+        _ => State::Ring,
     }
-    if code == 1 {
-        return State::Full;
-    }
-    State::Ring
 }
 
-// Whether a mark is among the marks: 1 reversed, 2 weak, 4 insides present, 8 long.
+// Whether a mark is among the marks: 1 reversed, 2 weak, 4 insides present, 8 long. Marks are numbers here and in `marks_of`, since C reads them as one byte.
 fn has_mark(marks: u8, mark: u8) -> bool
     requires { 0 < mark }
     ensures { result ≡ F.marked marks mark }
@@ -74,7 +74,7 @@ pub fn count_at(s: &[u8]) -> usize
     wire::u16_at(s, 0) as usize
 }
 
-// The mode, by whether mark 8 is there.
+// The mode, by whether mark 8 is there. No `From`, here and in `is_long`: it would stand in minor_arc, which knows of no marks.
 fn mode_of(long: bool) -> Mode
     ensures { result ≡ F.mode_of long }
 {
@@ -147,8 +147,7 @@ fn large_fault(state: State) -> Refusal
     ensures { number result ≡ F.large_fault state }
 {
     match state {
-        State::Empty => Refusal::Shape,
-        State::Full => Refusal::Shape,
+        State::Empty | State::Full => Refusal::Shape,
         State::Ring => Refusal::TooMany,
     }
 }
@@ -174,6 +173,7 @@ pub fn copy_fault(s: &[u8]) -> Result<(), Refusal>
 }
 
 // A loop's positions, into an array of their size.
+#[tactic(auto, using(crate::proofs::Parts::positions_read))]
 pub fn read_positions(s: &[u8], positions: &mut [f64])
     requires { F.Array s.now (length positions.old) }
     ensures { positions.new ≡ F.positions_at s.now }
@@ -182,6 +182,7 @@ pub fn read_positions(s: &[u8], positions: &mut [f64])
 }
 
 // A loop's positions and normals, into arrays of their size.
+#[tactic(auto, using(crate::proofs::Parts::positions_read, crate::proofs::Parts::normals_read))]
 pub fn read_vectors(s: &[u8], positions: &mut [f64], normals: &mut [f64])
     requires { F.Arrays s.now (length positions.old) (length normals.old) }
     ensures positions_after { positions.new ≡ F.positions_at s.now }
@@ -201,6 +202,7 @@ pub fn classes_from(s: &[u8]) -> usize
 }
 
 // How many corners bytes of a size have room for: 512 are enough.
+#[tactic(auto, unfolding(crate::specs::Layout::corners_for))]
 pub fn corners_for(size: usize) -> usize
     ensures value { result ≡ F.corners_for size }
     ensures upper_bound { result ≤ 512 }
@@ -215,13 +217,10 @@ pub fn corners_for(size: usize) -> usize
 fn state_code(state: State) -> u8
     ensures { result ≡ F.state_code state }
 {
-    match state {
-        State::Empty => 0,
-        State::Full => 1,
-        State::Ring => 2,
-    }
+    state as u8
 }
 
+#[tactic(auto, unfolding(crate::specs::Layout::mark_if))]
 fn mark_if(b: bool, mark: u8) -> u8
     ensures value { result ≡ F.mark_if b mark }
     ensures upper_bound { result ≤ mark }
@@ -293,6 +292,7 @@ pub fn put_header(out: &mut [u8], h: Header)
 }
 
 // A loop's bytes: its header, its positions, its normals and its classes.
+#[tactic(auto, using(crate::proofs::Parts::laid))]
 pub fn put_loop(out: &mut [u8], h: Header, positions: &[f64], normals: &[f64], classes: &[u8])
     requires { F.Parts h (length out.old) (length positions.now) (length normals.now) (length classes.now) }
     ensures { out.new ≡ sets out.old 0 (F.loop_bytes h positions.now normals.now classes.now) }

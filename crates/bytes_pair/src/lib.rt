@@ -13,23 +13,18 @@ use judge::Refusal;
 use loop_header::Header;
 use loop_relate::Relation;
 
+// Which question C asked of two loops: each case is one of its functions, and `told_of` is stated by it.
 #[derive(Clone, Copy)]
 pub enum Comparison {
     Relation,
     Equivalence,
 }
 
+// A relation's number, as C reads it, is its index among the variants.
 fn related(r: Relation) -> u32
     ensures { result ≡ Rel.relation_code r }
 {
-    match r {
-        Relation::Disjoint => 0,
-        Relation::Touching => 1,
-        Relation::Intersecting => 2,
-        Relation::Containing => 3,
-        Relation::Within => 4,
-        Relation::Equal => 5,
-    }
+    r as u32
 }
 
 // The answer of two loops in their parts.
@@ -120,6 +115,7 @@ fn against(
         return no_pair(h, positions, normals, classes, fault);
     }
     let size = 3 * bytes_loop::count_at(b);
+    // Work arrays of the largest loop's size with a length beside them, here and in `paired`: there is no heap.
     let mut others = [0.0f64; 1536];
     let mut theirs = [0.0f64; 1536];
     copy_second(

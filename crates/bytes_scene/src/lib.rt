@@ -9,6 +9,7 @@ ghost use Rattle.bytes_scene.specs.Scene as Sc;
 const NO_ROOM: u64 = 4294967301;
 
 // How many bytes of a text are written: none where it does not fit.
+#[tactic(auto, unfolding(crate::specs::Scene::fitting))]
 fn fitting(size: usize, room: usize) -> usize
     ensures value { result ≡ Sc.fitting size room }
     ensures upper_bound { (result ≤ size) × (result ≤ room) }
@@ -17,6 +18,7 @@ fn fitting(size: usize, room: usize) -> usize
 }
 
 // The size of a text as it is answered, or refusal 5 where it does not fit.
+#[tactic(auto, unfolding(crate::specs::Scene::size_answer))]
 fn size_answer(size: usize, room: usize) -> u64
     ensures { result ≡ Sc.size_answer size room }
 {

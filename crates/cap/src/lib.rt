@@ -62,11 +62,7 @@ fn sum(ps: &[f64], n: usize) -> Vec3
     requires { 3 * n ≤ length ps.now }
     ensures { result ≡ Caps.sum_of ps.now n }
 {
-    let mut s = Vec3::ZERO;
-    for i in 0..n {
-        s = s.add(vec3::at(ps, i));
-    }
-    s
+    (0..n).fold(Vec3::ZERO, |s, i| s.add(vec3::at(ps, i)))
 }
 
 // The chord from the centre to the farthest of the first n positions.
@@ -74,11 +70,9 @@ fn farthest(ps: &[f64], n: usize, centre: Vec3) -> ChordLength
     requires { 3 * n ≤ length ps.now }
     ensures { result ≡ Caps.farthest_of ps.now n centre }
 {
-    let mut most = ChordLength::NEGATIVE;
-    for i in 0..n {
-        most = most.later_max(ChordLength::new(centre, vec3::at(ps, i)));
-    }
-    most
+    (0..n).fold(ChordLength::NEGATIVE, |most, i| {
+        most.later_max(ChordLength::new(centre, vec3::at(ps, i)))
+    })
 }
 
 // The cap round a centre with the radius grown, or the full one from a quarter circle on: an edge could bulge out of it.

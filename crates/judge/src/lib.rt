@@ -12,7 +12,7 @@ const LOW: f64 = 0.9999999999990905052982270717620849609375;
 
 const HIGH: f64 = 1.0000000000009094947017729282379150390625;
 
-// What is handed in is refused for, by the rows of docs/REFUSALS.md.
+// What anything handed in is refused for, by the rows of docs/REFUSALS.md.
 #[derive(Clone, Copy, Debug, PartialEq, Eq)]
 pub enum Refusal {
     Shape,
@@ -97,15 +97,12 @@ pub fn first_refused(ps: &[f64], n: usize) -> usize
     ensures value { result ≡ first_refused ps.now n }
     ensures upper_bound { result ≤ n }
 {
-    for i in 0..n {
-        if fault(vec3::at(ps, i)).is_err() {
-            return i;
-        }
-    }
-    n
+    (0..n)
+        .find(|i| fault(vec3::at(ps, *i)).is_err())
+        .unwrap_or(n)
 }
 
-// The refusal of that one, 0 where there is none.
+// The refusal of that one, if there is one.
 pub fn positions_fault(ps: &[f64], n: usize) -> Result<(), Refusal>
     requires { 3 * n ≤ length ps.now }
     ensures { number_of result ≡ positions_fault ps.now n }
@@ -118,7 +115,7 @@ pub fn positions_fault(ps: &[f64], n: usize) -> Result<(), Refusal>
     }
 }
 
-// The first refusal that one of n normals gives.
+// The first refusal that one of n normals gives. By its index: three floats are one normal.
 pub fn vectors_fault(ns: &[f64], n: usize) -> Result<(), Refusal>
     requires { 3 * n ≤ length ns.now }
     ensures { number_of result ≡ vectors_fault ns.now n }

@@ -11,6 +11,7 @@ ghost use Rattle.loop_ask.specs.Questions as Q;
 use cap::Cap;
 use judge::Refusal;
 use loop_header::{Header, State};
+use ring_edges::Border;
 use vec3::Vec3;
 
 // Where a position lies. A mute loop has no insides to tell it by.
@@ -45,12 +46,12 @@ fn inside_or_outside(inside: bool) -> Place
 
 // Without insides: three corners by their sides, more are mute, and none lie in the full loop alone.
 #[tactic(auto, unfolding(crate::specs::Places::place_without))]
-fn place_without(h: Header, positions: &[f64], normals: &[f64], p: Vec3) -> Place
-    requires { (3 * h.count ≤ length positions.now) × (3 * h.count ≤ length normals.now) }
-    ensures { An.place_code result ≡ P.place_without h positions.now normals.now p }
+fn place_without(h: Header, border: &Border, p: Vec3) -> Place
+    requires { border.now.n ≡ h.count }
+    ensures { An.place_code result ≡ P.place_without h border.now.positions.now border.now.normals.now p }
 {
     if h.count == 3 {
-        return inside_or_outside(ring_place::in_triangle(positions, normals, p));
+        return inside_or_outside(ring_place::in_triangle(border.positions, border.normals, p));
     }
     if h.count > 3 {
         return Place::Mute;
@@ -64,22 +65,13 @@ fn place_without(h: Header, positions: &[f64], normals: &[f64], p: Vec3) -> Plac
 }
 
 // With insides: by the cap, which long mode does not ask, and the crossings, whatever the count and state.
-fn inside_with(h: Header, a: Vec3, b: Vec3, positions: &[f64], normals: &[f64], p: Vec3) -> bool
-    requires { (h.count ≤ 512) × (3 * h.count ≤ length positions.now) × (3 * h.count ≤ length normals.now) }
-    ensures { result ≡ P.inside_with h a b positions.now normals.now p }
+fn inside_with(h: Header, a: Vec3, b: Vec3, border: &Border, p: Vec3) -> bool
+    requires { border.now.n ≡ h.count }
+    ensures { result ≡ P.inside_with h a b border.now.positions.now border.now.normals.now p }
 {
     let mode = h.mode;
     let cap = h.cap;
-    ring_place::inside_by(
-        mode,
-        cleared_cap(cap),
-        a.clear(),
-        b.clear(),
-        positions,
-        normals,
-        h.count,
-        p,
-    )
+    ring_place::inside_by(mode, cleared_cap(cap), a.clear(), b.clear(), border, p)
 }
 
 // The place of a position against a loop that was judged.
@@ -87,9 +79,10 @@ pub fn locate(h: Header, positions: &[f64], normals: &[f64], p: Vec3) -> Place
     requires { (h.count ≤ 512) × (3 * h.count ≤ length positions.now) × (3 * h.count ≤ length normals.now) }
     ensures { An.place_code result ≡ P.place_of h positions.now normals.now p }
 {
+    let border = Border::new(positions, normals, h.count);
     match h.insides {
-        None => place_without(h, positions, normals, p),
-        Some((a, b)) => inside_or_outside(inside_with(h, a, b, positions, normals, p)),
+        None => place_without(h, &border, p),
+        Some((a, b)) => inside_or_outside(inside_with(h, a, b, &border, p)),
     }
 }
 
@@ -137,7 +130,7 @@ pub fn has_vertex(
 {
     let q = p.clear();
     query_fault(h, positions, normals, classes, q)?;
-    Ok(ring_edges::has_vertex(positions, h.count, q))
+    Ok(Border::new(positions, normals, h.count).has_vertex(q))
 }
 
 // Whether a position lies on an edge of a loop.
@@ -153,7 +146,7 @@ pub fn any_edge_contains_position(
 {
     let q = p.clear();
     query_fault(h, positions, normals, classes, q)?;
-    Ok(ring_edges::any_edge_contains_position(positions, normals, h.count, q))
+    Ok(Border::new(positions, normals, h.count).any_edge_contains_position(q))
 }
 
 // Whether a loop is convex.
@@ -167,7 +160,7 @@ pub fn is_convex(
     ensures { An.told_answered result ≡ Q.convex_answer h positions.now normals.now classes.now }
 {
     loop_header::loop_fault(h, positions, normals, classes)?;
-    Ok(ring_shape::is_convex(positions, h.count))
+    Ok(ring_shape::is_convex(&Border::new(positions, normals, h.count)))
 }
 
 // Whether a loop is simple.
@@ -182,7 +175,7 @@ pub fn is_simple(
 {
     loop_header::loop_fault(h, positions, normals, classes)?;
     let mode = h.mode;
-    Ok(ring_shape::is_simple(mode, positions, normals, h.count))
+    Ok(ring_shape::is_simple(mode, &Border::new(positions, normals, h.count)))
 }
 
 // The refusals of a first loop, and then those of a second.

@@ -61,6 +61,7 @@ fn refusal_of(
 }
 
 // The edges' normals and the ring's classes into work arrays, and the turn sum.
+#[tactic(auto, unfolding(ring_corners::specs::Corners::reversal))]
 fn prepare(list: &[f64], n: usize, edges: &mut [f64], codes: &mut [u8]) -> Angle
     requires { (n ≤ 512) × (3 * n ≤ length list.now) × (length edges.old ≡ 3 * n) × (length codes.old ≡ n) }
     ensures { record { sum = result; edges = edges.new; classes = codes.new } ≡ B.prepared list.now n }

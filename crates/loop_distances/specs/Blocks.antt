@@ -61,11 +61,6 @@ Indexed ns list = (j : ℕ) → j < length list → 3 * get_or list j 0 + 2 < le
 abbrev pub Below : ℕ → List ℕ → Type 0
 Below n list = (j : ℕ) → j < length list → get_or list j 0 < n
 
-pub record Sized (ps ns : List Float) (n : ℕ) : Type 0 where
-  pub few : n ≤ 512
-  pub positions : 3 * n ≤ length ps
-  pub normals : 3 * n ≤ length ns
-
 -- no corner and no query that the judge refuses
 pub record Fine (ps : List Float) (n : ℕ) (p : Vec3) : Type 0 where
   pub corners : (i : ℕ) → i < n → position_fault ps i ≡ 0

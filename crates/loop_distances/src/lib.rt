@@ -11,6 +11,7 @@ use chord_length::ChordLength;
 use judge::Refusal;
 use loop_header::Header;
 use minor_arc::MinorArc;
+use ring_edges::Border;
 use vec3::Vec3;
 
 // 2^-36 and 2^-23: docs/SCOPE.md knows nothing of them, for they decide no answer (crate sure_sides).
@@ -122,25 +123,23 @@ pub struct Settled {
 
 // Takes in the edges of a block that are settled, and lists the others from the front of `listed` on. The squared chord to a corner serves both its edges.
 fn settle(
-    positions: &[f64],
-    normals: &[f64],
-    n: usize,
+    border: &Border,
     from: usize,
     to: usize,
     p: Vec3,
     known: ChordLength,
     listed: &mut [usize],
 ) -> Settled
-    requires { (from < to) × (to ≤ from + length listed.old) × (to ≤ n) × B.Sized positions.now normals.now n }
-    ensures { B.Passed positions.now normals.now n from to p known listed.new result }
+    requires { (from < to) × (to ≤ from + length listed.old) × (to ≤ border.now.n) }
+    ensures { B.Passed border.now.positions.now border.now.normals.now border.now.n from to p known listed.new result }
 {
     let mut r = known;
     let mut k = 0usize;
-    let mut start = vec3::at(positions, from);
+    let mut start = border.corner(from);
     let mut chord = ChordLength::new(p, start);
     for i in from..to {
-        let end = vec3::at(positions, ring_index::next(i, n));
-        let normal = vec3::at(normals, i);
+        let end = border.corner_after(i);
+        let normal = vec3::at(border.normals, i);
         let next = ChordLength::new(p, end);
         let settled = is_settled(MinorArc { start, end, normal }, p, chord, next);
         r = taken(settled, r, chord.least(next));
@@ -199,21 +198,19 @@ fn far_with(a: MinorArc, p: Vec3, across: Vec3, unit: Vec3) -> ChordLength
 
 // The least with the edges listed, their unit vectors at hand.
 fn far_each(
-    positions: &[f64],
-    normals: &[f64],
-    n: usize,
+    border: &Border,
     p: Vec3,
     listed: &[usize],
     across: &[f64],
     units: &[f64],
     known: ChordLength,
 ) -> ChordLength
-    requires { B.Sized positions.now normals.now n × B.Below n listed.now × (length listed.now ≤ 16) × (length across.now ≡ 3 * length listed.now) × (length units.now ≡ 3 * length listed.now) }
-    ensures { result ≡ B.each_least positions.now normals.now n p listed.now across.now units.now known }
+    requires { B.Below border.now.n listed.now × (length listed.now ≤ 16) × (length across.now ≡ 3 * length listed.now) × (length units.now ≡ 3 * length listed.now) }
+    ensures { result ≡ B.each_least border.now.positions.now border.now.normals.now border.now.n p listed.now across.now units.now known }
 {
     let mut r = known;
     for j in 0..listed.len() {
-        let a = ring_edges::edge(positions, normals, n, listed[j]);
+        let a = border.edge(listed[j]);
         r = r.least(far_with(a, p, vec3::raw(across, j), vec3::raw(units, j)));
     }
     r
@@ -221,9 +218,7 @@ fn far_each(
 
 // The same, with room for the products and the unit vectors. Products and roots each have a loop of their own: the processor then has many roots under way at once.
 fn far_in(
-    positions: &[f64],
-    normals: &[f64],
-    n: usize,
+    border: &Border,
     p: Vec3,
     listed: &[usize],
     work: &mut [f64],
@@ -231,36 +226,32 @@ fn far_in(
     units: &mut [f64],
     known: ChordLength,
 ) -> ChordLength
-    requires { B.Sized positions.now normals.now n × B.Below n listed.now × (length listed.now ≤ 16) × B.Lent (length listed.now) (length work.old) (length across.old) (length units.old) }
-    ensures { result ≡ B.listed_least positions.now normals.now n p listed.now known }
+    requires { B.Below border.now.n listed.now × (length listed.now ≤ 16) × B.Lent (length listed.now) (length work.old) (length across.old) (length units.old) }
+    ensures { result ≡ B.listed_least border.now.positions.now border.now.normals.now border.now.n p listed.now known }
 {
-    write_across(p, normals, listed, work);
+    write_across(p, border.normals, listed, work);
     ring_edges::write_units(work, listed.len(), across);
-    write_feet(normals, listed, across, work);
+    write_feet(border.normals, listed, across, work);
     ring_edges::write_units(work, listed.len(), units);
-    far_each(positions, normals, n, p, listed, across, units, known)
+    far_each(border, p, listed, across, units, known)
 }
 
 // The same of at most N edges, in work arrays of three floats for each.
 fn far_within<const N: usize, const FLOATS: usize>(
-    positions: &[f64],
-    normals: &[f64],
-    n: usize,
+    border: &Border,
     p: Vec3,
     listed: &[usize],
     known: ChordLength,
 ) -> ChordLength
-    requires { B.Sized positions.now normals.now n × B.Below n listed.now × (length listed.now ≤ N) × (N ≤ 16) × (FLOATS ≡ 3 * N) }
-    ensures { result ≡ B.listed_least positions.now normals.now n p listed.now known }
+    requires { B.Below border.now.n listed.now × (length listed.now ≤ N) × (N ≤ 16) × (FLOATS ≡ 3 * N) }
+    ensures { result ≡ B.listed_least border.now.positions.now border.now.normals.now border.now.n p listed.now known }
 {
     let size = 3 * listed.len();
     let mut work = [0.0f64; FLOATS];
     let mut across = [0.0f64; FLOATS];
     let mut units = [0.0f64; FLOATS];
     far_in(
-        positions,
-        normals,
-        n,
+        border,
         p,
         listed,
         &mut work[..size],
@@ -271,67 +262,53 @@ fn far_within<const N: usize, const FLOATS: usize>(
 }
 
 // The same, by how many they are.
-fn far_listed(
-    positions: &[f64],
-    normals: &[f64],
-    n: usize,
-    p: Vec3,
-    listed: &[usize],
-    known: ChordLength,
-) -> ChordLength
-    requires { B.Sized positions.now normals.now n × B.Below n listed.now × (length listed.now ≤ 16) }
-    ensures { result ≡ B.listed_least positions.now normals.now n p listed.now known }
+fn far_listed(border: &Border, p: Vec3, listed: &[usize], known: ChordLength) -> ChordLength
+    requires { B.Below border.now.n listed.now × (length listed.now ≤ 16) }
+    ensures { result ≡ B.listed_least border.now.positions.now border.now.normals.now border.now.n p listed.now known }
 {
     // Mostly there are no more than four, and filling large arrays costs as much as the rest.
     if listed.len() <= 4 {
-        return far_within::<4, 12>(positions, normals, n, p, listed, known);
+        return far_within::<4, 12>(border, p, listed, known);
     }
-    far_within::<16, 48>(positions, normals, n, p, listed, known)
+    far_within::<16, 48>(border, p, listed, known)
 }
 
 // A block of edges: first those that are settled, for which no root is taken, and then the others.
-fn far_block(
-    positions: &[f64],
-    normals: &[f64],
-    n: usize,
-    from: usize,
-    to: usize,
-    p: Vec3,
-    known: ChordLength,
-) -> ChordLength
-    requires { (from < to) × (to ≤ from + 16) × (to ≤ n) × B.Sized positions.now normals.now n × B.Fine positions.now n p × (known ≡ B.least_of positions.now normals.now n p from) }
-    ensures { result ≡ B.least_of positions.now normals.now n p to }
+fn far_block(border: &Border, from: usize, to: usize, p: Vec3, known: ChordLength) -> ChordLength
+    requires { (from < to) × (to ≤ from + 16) × (to ≤ border.now.n) × B.Fine border.now.positions.now border.now.n p × (known ≡ B.least_of border.now.positions.now border.now.normals.now border.now.n p from) }
+    ensures { result ≡ B.least_of border.now.positions.now border.now.normals.now border.now.n p to }
 {
     let mut listed = [0usize; 16];
-    let s = settle(positions, normals, n, from, to, p, known, &mut listed);
+    let s = settle(border, from, to, p, known, &mut listed);
     let k = s.count;
-    far_listed(positions, normals, n, p, &listed[..k], s.least)
+    far_listed(border, p, &listed[..k], s.least)
 }
 
-// How far p is from a ring of n corners: the least over its edges.
-fn far_ring(positions: &[f64], normals: &[f64], n: usize, p: Vec3) -> ChordLength
-    requires { B.Sized positions.now normals.now n × B.Fine positions.now n p }
-    ensures { result ≡ D.far_ring positions.now normals.now n p }
+// How far p is from a ring: the least over its edges.
+fn far_ring(border: &Border, p: Vec3) -> ChordLength
+    requires { B.Fine border.now.positions.now border.now.n p }
+    ensures { result ≡ D.far_ring border.now.positions.now border.now.normals.now border.now.n p }
 {
     let mut r = ChordLength::MAX;
     let mut from = 0usize;
-    while from < n {
-        let to = ring_index::block_end(from, n);
-        r = far_block(positions, normals, n, from, to, p, r);
+    while from < border.n {
+        let to = ring_index::block_end(from, border.n);
+        r = far_block(border, from, to, p, r);
         from = to;
     }
     r
 }
 
-// How far p is from the border of a loop of n corners.
-fn far(positions: &[f64], normals: &[f64], n: usize, p: Vec3) -> ChordLength
-    requires { B.Sized positions.now normals.now n × B.Fine positions.now n p }
-    ensures { result ≡ D.far positions.now normals.now n p }
+// How far p is from a loop's border, which may be bare of corners.
+#[tactic(auto, unfolding(crate::specs::Distances::far))]
+fn far(border: &Border, p: Vec3) -> ChordLength
+    requires { B.Fine border.now.positions.now border.now.n p }
+    ensures { result ≡ D.far border.now.positions.now border.now.normals.now border.now.n p }
 {
-    if n == 0 {
+    if border.n == 0 {
         return ChordLength::ZERO;
     }
-    far_ring(positions, normals, n, p)
+    far_ring(border, p)
 }
 
 // How far a position is from an arc.
@@ -346,7 +323,7 @@ pub fn distance_to(a: MinorArc, p: Vec3) -> Result<ChordLength, Refusal>
 }
 
 // How far a position is from a loop's border, inside it or outside: 0 where the loop has none.
-#[tactic(auto, using(crate::proofs::Judged::query_sized, crate::proofs::Judged::query_fine), unfolding(crate::specs::Distances::boundary_told))]
+#[tactic(auto, using(loop_ask::proofs::Judged::query_most, loop_ask::proofs::Judged::query_positions, loop_ask::proofs::Judged::query_normals, crate::proofs::Judged::query_fine), unfolding(crate::specs::Distances::boundary_told))]
 pub fn distance_to_boundary(
     h: Header,
     positions: &[f64],
@@ -358,5 +335,5 @@ pub fn distance_to_boundary(
 {
     let q = p.clear();
     loop_ask::query_fault(h, positions, normals, classes, q)?;
-    Ok(far(positions, normals, h.count, q))
+    Ok(far(&Border::new(positions, normals, h.count), q))
 }

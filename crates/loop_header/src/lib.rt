@@ -64,13 +64,13 @@ fn count_fits(state: State, count: usize) -> bool
     ensures { result ≡ L.count_fits state count }
 {
     match state {
-        State::Empty => count == 0,
-        State::Full => count == 0,
+        State::Empty | State::Full => count == 0,
         State::Ring => 3 <= count,
     }
 }
 
 // Whether a slice holds three floats for each of count. The product could wrap where the quotient cannot.
+#[tactic(auto, using(crate::proofs::Shapes::in_threes))]
 fn threes(size: usize, count: usize) -> bool
     ensures { result ≡ L.threes_of size count }
 {
@@ -129,8 +129,7 @@ fn ring_only(state: State) -> Result<(), Refusal>
     ensures { number_of result ≡ L.ring_only state }
 {
     match state {
-        State::Empty => Err(Refusal::NoRing),
-        State::Full => Err(Refusal::NoRing),
+        State::Empty | State::Full => Err(Refusal::NoRing),
         State::Ring => Ok(()),
     }
 }

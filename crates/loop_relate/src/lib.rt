@@ -1,8 +1,9 @@
 // How two loops stand to each other, by the stages of the source in its order. Where the source stops at `unreachable!`, refusal 7 is given.
 #![tactic(auto)]
 
-ghost use Rattle.std.specs.Prelude.{◌≡◌, ◌*◌, ◌≤◌, length};
+ghost use Rattle.std.specs.Prelude.{◌≡◌};
 ghost use Rattle.judge.specs.Refusals.{number_of};
+ghost use Rattle.ring_pair.specs.Probes.{unambiguous_point};
 ghost use Rattle.loop_ask.specs.Answers as An;
 ghost use Rattle.loop_ask.specs.Places as P;
 ghost use Rattle.loop_ask.specs.Questions as Q;
@@ -13,6 +14,7 @@ use judge::Refusal;
 use loop_ask::Place;
 use loop_header::{Header, State};
 use minor_arc::Mode;
+use ring_edges::Border;
 use ring_pair::Probe;
 
 // How a first loop stands to a second: it contains the second, or lies within it.
@@ -75,29 +77,33 @@ fn is_inside(p: Place) -> bool
 }
 
 // Whether a point was found, and lies in the loop.
-fn probe_inside(at: Probe, o: Header, others: &[f64], theirs: &[f64]) -> bool
-    requires { (o.count ≤ 512) × (3 * o.count ≤ length others.now) × (3 * o.count ≤ length theirs.now) }
-    ensures { result ≡ Rel.probe_inside at o others.now theirs.now }
+fn probe_inside(at: Probe, o: Header, reference: &Border) -> bool
+    requires { reference.now.n ≡ o.count }
+    ensures { result ≡ Rel.probe_inside at o reference.now.positions.now reference.now.normals.now }
 {
     match at {
         Probe::Nowhere => false,
-        Probe::Corner(p) => is_inside(loop_ask::locate(o, others, theirs, p)),
-        Probe::Middle(p) => is_inside(loop_ask::locate(o, others, theirs, p)),
+        Probe::Corner(p) => is_inside(loop_ask::locate(
+            o,
+            reference.positions,
+            reference.normals,
+            p,
+        )),
+        Probe::Middle(p) => is_inside(loop_ask::locate(
+            o,
+            reference.positions,
+            reference.normals,
+            p,
+        )),
     }
 }
 
-// Whether a point of the first loop that is on no edge of the second lies in the second.
-#[tactic(auto, unfolding(crate::specs::Relations::lies_in))]
-fn lies_in(h: Header, positions: &[f64], o: Header, others: &[f64], theirs: &[f64]) -> bool
-    requires { (h.count ≤ 512) × (3 * h.count ≤ length positions.now) × (o.count ≤ 512) × (3 * o.count ≤ length others.now) × (3 * o.count ≤ length theirs.now) }
-    ensures { result ≡ Rel.lies_in h positions.now o others.now theirs.now }
+// Whether a point of the first ring that is on no edge of the second loop's lies in that loop.
+fn lies_in(probe: &Border, o: Header, reference: &Border) -> bool
+    requires { reference.now.n ≡ o.count }
+    ensures { result ≡ Rel.probe_inside (unambiguous_point probe.now.positions.now probe.now.n reference.now.positions.now reference.now.normals.now reference.now.n) o reference.now.positions.now reference.now.normals.now }
 {
-    probe_inside(
-        ring_pair::unambiguous_point(positions, h.count, others, theirs, o.count),
-        o,
-        others,
-        theirs,
-    )
+    probe_inside(ring_pair::unambiguous_point(probe, reference), o, reference)
 }
 
 // No edges cross, so containment both ways decides.
@@ -121,25 +127,18 @@ fn by_containment(touched: bool, within: bool, containing: bool) -> Result<Relat
 }
 
 // Every edge with every edge, and then containment. Both searches run.
-#[tactic(auto, unfolding(crate::specs::Relations::by_edges))]
-fn by_edges(
-    h: Header,
-    positions: &[f64],
-    normals: &[f64],
-    o: Header,
-    others: &[f64],
-    theirs: &[f64],
-) -> Result<Relation, Refusal>
-    requires { Rel.Sized h positions.now normals.now o others.now theirs.now }
-    ensures { Rel.told_related result ≡ Rel.by_edges h positions.now normals.now o others.now theirs.now }
+#[tactic(auto, unfolding(crate::specs::Relations::by_edges, crate::specs::Relations::lies_in))]
+fn by_edges(h: Header, one: &Border, o: Header, other: &Border) -> Result<Relation, Refusal>
+    requires { (one.now.n ≡ h.count) × (other.now.n ≡ o.count) }
+    ensures { Rel.told_related result ≡ Rel.by_edges h one.now.positions.now one.now.normals.now o other.now.positions.now other.now.normals.now }
 {
     let mode = h.mode;
-    let k = ring_pair::contact_of(mode, positions, normals, h.count, others, theirs, o.count);
+    let k = ring_pair::contact_of(mode, one, other);
     if ring_pair::is_crossed(k) {
         return Ok(Relation::Intersecting);
     }
-    let within = lies_in(h, positions, o, others, theirs);
-    let containing = lies_in(o, others, h, positions, normals);
+    let within = lies_in(one, o, other);
+    let containing = lies_in(other, h, one);
     by_containment(ring_pair::is_touched(k), within, containing)
 }
 
@@ -168,7 +167,12 @@ fn by_caps(
     if loop_ask::equivalent(h, positions, classes, o, others, codes) {
         return Ok(Relation::Equal);
     }
-    by_edges(h, positions, normals, o, others, theirs)
+    by_edges(
+        h,
+        &Border::new(positions, normals, h.count),
+        o,
+        &Border::new(others, theirs, o.count),
+    )
 }
 
 // Full and empty loops first.

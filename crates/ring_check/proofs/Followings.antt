@@ -1,18 +1,17 @@
 -- A ring being cut along a list: what holds after t triples, where m corners are left. Assumes nothing.
 use Prim.Native.Nat.{ℕ, suc, ◌+◌, ◌-◌, ◌*◌, ◌≤◌, ◌<◌}
 use mathlib.Core.Path.{◌≡◌, refl, sym, ap, ◌∙◌}
-use mathlib.Core.Bool.{Bool, true, false, not, ◌&&◌, true≢false}
+use mathlib.Core.Bool.{Bool, true, false, ◌&&◌, true≢false}
 use mathlib.Core.List.{List, ◌∷◌, ◌++◌}
 use native.Mathlib.Omega.{arith}
 use lib.Ieee.{Float}
 use lib.ListN.{length, take, drop, get_or}
 use lib.Seq.{take-length}
-use borrow.Author.Tests.{ltb-true}
-use Rattle.laws.proofs.Loops.{first_at_le}
+use borrow.Author.Tests.{ltb-true, le-ltb}
 use Rattle.ring_ears.specs.Ears.{Lent, Remaining, cut_at, cut_in}
 use Rattle.ring_cut.specs.Cut.{whole_ring}
 use Rattle.ring_cut.proofs.Lefts.{left, Held, hold, cut_left, cut_held}
-use Rattle.ring_check.specs.Accepted.{is_number, index_of, fits_at, same_numbers, accepts, accepts_from}
+use Rattle.ring_check.specs.Accepted.{index_of, fits_at, same_numbers, accepts, accepts_from}
 use Rattle.ring_check.proofs.Lists.{triple}
 
 pub both : (p q : Bool) → p && q ≡ true → (p ≡ true) × (q ≡ true)
@@ -38,6 +37,11 @@ pub fits_index : (ps : List Float) (s : Remaining) (i a c : ℕ) → fits_at ps 
 unfolding fits_at
 fits_index ps s i a c e = ltb-true i (length s.ids) (both _ _ (both _ _ e).0).0
 
+-- no index past the end does
+no_index : (ps : List Float) (s : Remaining) (i a c : ℕ) → length s.ids ≤ i → false ≡ fits_at ps s i a c
+unfolding fits_at
+no_index ps s i a c h = rw (le-ltb _ _ h)
+
 pub record Following (ps : List Float) (ids₀ classes₀ tris ids classes : List ℕ) (m t : ℕ) : Type 0 where
   pub held : Held ps ids₀ classes₀ ids classes m
   pub count : m + t ≡ length ids₀
@@ -49,10 +53,6 @@ pub begin : {ps : List Float} {ids classes tris : List ℕ} → Lent ps ids clas
 begin l h e = record { held = hold l h; count = omega arith; size = e; rest = rw take-length }
 
 module _ {ps : List Float} {ids₀ classes₀ tris ids classes : List ℕ} {m t : ℕ} (g : Following ps ids₀ classes₀ tris ids classes m t) where
-  -- the index that is found
-  pub at_most_lem : {i : ℕ} → i ≡ index_of (take m ids) (get_or tris (3 * t + 1) 0) → i ≤ length (take m ids)
-  at_most_lem e = rw e (omega (arith, first_at_le (is_number (take m ids) (get_or tris (3 * t + 1) 0)) (length (take m ids)) 0))
-
   -- an iteration
   module _ {i : ℕ} (more : 3 < m) (e : i ≡ index_of (take m ids) (get_or tris (3 * t + 1) 0)) {b : Bool}
       (f : b ≡ fits_at ps (left ids classes m) i (get_or tris (3 * t) 0) (get_or tris (3 * t + 2) 0)) where
@@ -84,6 +84,10 @@ module _ {ps : List Float} {ids₀ classes₀ tris ids classes : List ℕ} {m t 
             size = g.size;
             rest = g.rest ∙ rw (one_less, triple tris t room, cut_left g.held h more q p kept also) (accepts_on ps (m - 1 - 3) (left ids classes m) _ _ _ (drop (3 * (t + 1)) tris) e (fits n));
           }
+
+  -- the middle number of the next triple is not on the ring left
+  pub missing : 3 < m → length (take m ids) ≤ index_of (take m ids) (get_or tris (3 * t + 1) 0) → false ≡ accepts_from ps (record { ids = ids₀; classes = classes₀ }) tris
+  missing more h = off more refl (no_index ps (left ids classes m) _ (get_or tris (3 * t) 0) (get_or tris (3 * t + 2) 0) h) refl
 
   -- the ring left is compared with the last triple
   pub finish : {r : Bool} → m ≤ 3 → r ≡ same_numbers (take m ids) (drop (3 * t) tris) → r ≡ accepts_from ps (record { ids = ids₀; classes = classes₀ }) tris

@@ -2,21 +2,17 @@
 #![tactic(auto)]
 
 ghost use Rattle.std.specs.Prelude.{◌≡◌, ◌+◌, ◌-◌, ◌*◌, ◌≤◌, ◌<◌, length, get_or, drop};
+ghost use Rattle.laws.specs.Loop.{found};
 ghost use Rattle.ring_ears.specs.Ears.{Lent};
 ghost use Rattle.ring_cut.specs.Cut.{Ring, Work, whole_ring};
 ghost use Rattle.ring_check.specs.Accepted.{index_of, between, fits_at, same_numbers, accepts_from, accepted};
 
-// The index of the number b; the length of the list if it is not there.
-fn index_of(ids: &[u16], b: u16) -> usize
+// The index of the number b, if it is there.
+fn index_of(ids: &[u16], b: u16) -> Option<usize>
     requires { length ids.now ≤ 512 }
-    ensures { result ≡ index_of ids.now b }
+    ensures { result ≡ found (index_of ids.now b) (length ids.now) }
 {
-    for i in 0..ids.len() {
-        if ids[i] == b {
-            return i;
-        }
-    }
-    ids.len()
+    ids.iter().position(|x| *x == b)
 }
 
 // Whether a stands before index i, and c after it.
@@ -30,6 +26,7 @@ fn is_between(ids: &[u16], i: usize, a: u16, c: u16) -> bool
 }
 
 // Whether index i is one of the ring left, between a and c, and an eligible ear.
+#[tactic(auto, unfolding(crate::specs::Accepted::fits_at))]
 fn fits_at(ps: &[f64], ids: &[u16], classes: &[u8], i: usize, a: u16, c: u16) -> bool
     requires { Lent ps.now ids.now classes.now × (i ≤ length ids.now) }
     ensures { result ≡ fits_at ps.now (record { ids = ids.entry.now; classes = classes.now }) i a c }
@@ -42,10 +39,10 @@ fn fits_at(ps: &[f64], ids: &[u16], classes: &[u8], i: usize, a: u16, c: u16) ->
     false
 }
 
-// The index of the middle number of the triple numbered t.
-fn index_at(ids: &[u16], triangles: &[u16], t: usize) -> usize
+// The index of the middle number of the triple numbered t, if that is on the ring left.
+fn index_at(ids: &[u16], triangles: &[u16], t: usize) -> Option<usize>
     requires { (length ids.now ≤ 512) × (3 * t + 2 < length triangles.now) }
-    ensures { result ≡ index_of ids.now (get_or triangles.now (3 * t + 1) 0) }
+    ensures { result ≡ found (index_of ids.now (get_or triangles.now (3 * t + 1) 0)) (length ids.now) }
 {
     index_of(ids, triangles[3 * t + 1])
 }
@@ -59,6 +56,7 @@ fn is_named(ps: &[f64], ids: &[u16], classes: &[u8], i: usize, triangles: &[u16]
 }
 
 // Whether the triple numbered t is the ring of three that is left, from its first.
+#[tactic(auto, using(crate::proofs::Lists::same_last))]
 fn is_last(ids: &[u16], triangles: &[u16], t: usize) -> bool
     requires { (length ids.now ≡ 3) × (length triangles.now ≡ 3 * (t + 1)) }
     ensures { result ≡ same_numbers ids.now (drop (3 * t) triangles.now) }
@@ -67,7 +65,8 @@ fn is_last(ids: &[u16], triangles: &[u16], t: usize) -> bool
     (ids[0] == triangles[k]) & (ids[1] == triangles[k + 1]) & (ids[2] == triangles[k + 2])
 }
 
-// Cuts the ring along the list: each triple but the last has to be that of an eligible ear of the ring then left, the last that ring's three.
+// Cuts the ring along the list: each triple but the last has to be that of an eligible ear of the ring then left, the last that ring's three. By how
+// many are left, of which each cut takes one.
 fn follow(ps: &[f64], ids: &mut [u16], classes: &mut [u8], triangles: &[u16]) -> bool
     requires { Lent ps.now ids.old classes.old × (3 ≤ length ids.old) × (length triangles.now ≡ 3 * (length ids.old - 2)) }
     ensures { result ≡ accepts_from ps.now (record { ids = ids.entry.now; classes = classes.old }) triangles.now }
@@ -75,7 +74,9 @@ fn follow(ps: &[f64], ids: &mut [u16], classes: &mut [u8], triangles: &[u16]) ->
     let mut m = ids.len();
     let mut t = 0;
     while 3 < m {
-        let i = index_at(&ids[..m], triangles, t);
+        let Some(i) = index_at(&ids[..m], triangles, t) else {
+            return false;
+        };
         if !is_named(ps, &ids[..m], classes, i, triangles, t) {
             return false;
         }
@@ -96,6 +97,7 @@ fn check_in(ps: &[f64], classes: &[u8], triangles: &[u16], ids: &mut [u16], work
 }
 
 // Whether the list cuts the ring: n - 2 triples, each but the last an eligible ear of the ring then left, the last that ring's three. No for any other list.
+#[tactic(auto, using(laws::proofs::Copies::first_of_lem), unfolding(crate::specs::Accepted::accepted))]
 pub fn check_list(positions: &[f64], classes: &[u8], triangles: &[u16]) -> bool
     requires { Ring positions.now classes.now }
     ensures { result ≡ accepted positions.now classes.now triangles.now }

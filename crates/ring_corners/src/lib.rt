@@ -87,8 +87,8 @@ pub fn write_classes(list: &[f64], edges: &[f64], n: usize, reversed: bool, out:
     requires { (n ≤ 512) × (3 * n ≤ length list.now) × (edges.now ≡ edge_normals list.now n) × (length out.old ≡ n) }
     ensures { out.new ≡ R.classes_of list.now n reversed }
 {
-    for k in 0..n {
-        out[k] = class(list, edges, n, reversed, k);
+    for (k, c) in out.iter_mut().enumerate() {
+        *c = class(list, edges, n, reversed, k);
     }
 }
 
@@ -96,12 +96,7 @@ pub fn write_classes(list: &[f64], edges: &[f64], n: usize, reversed: bool, out:
 pub fn all_both(classes: &[u8]) -> bool
     ensures { result ≡ R.all_both classes.now }
 {
-    for k in 0..classes.len() {
-        if classes[k] != 2 {
-            return false;
-        }
-    }
-    true
+    classes.iter().all(|c| *c == 2)
 }
 
 // The ring's corners, into the front of a lent list.

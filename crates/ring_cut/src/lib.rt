@@ -13,8 +13,8 @@ fn number(ids: &mut [u16])
     requires { length ids.old ≤ 512 }
     ensures { ids.new ≡ numbers (length ids.old) }
 {
-    for i in 0..ids.len() {
-        ids[i] = i as u16;
+    for (i, id) in ids.iter_mut().enumerate() {
+        *id = i as u16;
     }
 }
 
@@ -31,7 +31,8 @@ fn put_ear(ids: &[u16], i: usize, triangles: &mut [u16], t: usize)
     triangles[3 * t + 2] = ids[b];
 }
 
-// Cuts the lowest ear each time until three are left, and lays the triangles one after the other. False where a ring above three has no ear.
+// Cuts the lowest ear each time until three are left, and lays the triangles one after the other. False where a ring above three has no ear. By how
+// many are left, of which each cut takes one.
 fn cut_all(
     ps: &[f64],
     ids: &mut [u16],

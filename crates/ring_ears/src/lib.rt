@@ -79,7 +79,7 @@ pub fn is_ear(ps: &[f64], ids: &[u16], classes: &[u8], i: usize) -> bool
     false
 }
 
-// Takes the number at index i out; the last index keeps its own.
+// Takes the number at index i out; the last index keeps its own. Element by element: each is read at one index and written at another.
 fn remove_at(ids: &mut [u16], i: usize)
     requires { (i < length ids.old) × (length ids.old ≤ 512) }
     ensures { ids.new ≡ without i ids.old ++ drop (length ids.old - 1) ids.old }

@@ -2,39 +2,13 @@
 // Total on every float; `requires` for indexes and lengths alone.
 #![tactic(auto)]
 
-ghost use Rattle.std.specs.Prelude.{◌≡◌, ◌+◌, ◌-◌, ◌*◌, ◌≤◌, ◌<◌, length};
+ghost use Rattle.std.specs.Prelude.{◌≡◌, ◌+◌, ◌-◌, ◌*◌, ◌%◌, ◌≤◌, ◌<◌, length};
+ghost use Rattle.vec3.specs.Vec.{pos_at};
 ghost use Rattle.ring_edges.specs.Blocks as B;
 ghost use Rattle.ring_edges.specs.Edges as E;
 
 use minor_arc::MinorArc;
 use vec3::Vec3;
-
-// The edge from corner i to the next.
-pub fn edge(positions: &[f64], normals: &[f64], n: usize, i: usize) -> MinorArc
-    requires { (i < n) × (n ≤ 512) × (3 * n ≤ length positions.now) × (3 * n ≤ length normals.now) }
-    ensures { result ≡ E.edge_at positions.now normals.now n i }
-{
-    let start = vec3::at(positions, i);
-    let end = vec3::at(positions, ring_index::next(i, n));
-    let normal = vec3::at(normals, i);
-    MinorArc { start, end, normal }
-}
-
-// Whether some edge has p on it.
-pub fn any_edge_contains_position(positions: &[f64], normals: &[f64], n: usize, p: Vec3) -> bool
-    requires { (n ≤ 512) × (3 * n ≤ length positions.now) × (3 * n ≤ length normals.now) }
-    ensures { result ≡ E.on_edge positions.now normals.now n p }
-{
-    (0..n).any(|i| edge(positions, normals, n, i).contains_position(p))
-}
-
-// Whether p is one of the corners.
-pub fn has_vertex(positions: &[f64], n: usize, p: Vec3) -> bool
-    requires { (n ≤ 512) × (3 * n ≤ length positions.now) }
-    ensures { result ≡ E.has_vertex positions.now n p }
-{
-    (0..n).any(|i| vec3::at(positions, i).equals(p))
-}
 
 // The products of a normal with those of k edges from `from` on, into a work array.
 fn write_products(normal: Vec3, normals: &[f64], from: usize, k: usize, out: &mut [f64])
@@ -94,4 +68,68 @@ pub fn candidate(
     ensures { result ≡ B.candidate_at normal normals.now i }
 {
     vec3::raw(candidates, i - from)
+}
+
+// The border of a ring: its n corners and the edges between them, out of lent lists.
+#[derive(Clone, Copy)]
+pub struct Border<'a> {
+    pub positions: &'a [f64],
+    pub normals: &'a [f64],
+    pub n: usize,
+    ghost few: { n ≤ 512 },
+    ghost corners: { 3 * n ≤ length positions.now },
+    ghost edges: { 3 * n ≤ length normals.now },
+}
+
+impl<'a> Border<'a> {
+    pub fn new(positions: &'a [f64], normals: &'a [f64], n: usize) -> Border<'a>
+        requires { (n ≤ 512) × (3 * n ≤ length positions.now) × (3 * n ≤ length normals.now) }
+        ensures { (result.positions.now ≡ positions.now) × (result.normals.now ≡ normals.now) × (result.n ≡ n) }
+    {
+        Border {
+            positions,
+            normals,
+            n,
+        }
+    }
+
+    pub fn corner(&self, i: usize) -> Vec3
+        requires { i < self.now.n }
+        ensures { result ≡ pos_at self.now.positions.now i }
+    {
+        vec3::at(self.positions, i)
+    }
+
+    pub fn corner_after(&self, i: usize) -> Vec3
+        requires { i < self.now.n }
+        ensures { result ≡ pos_at self.now.positions.now ((i + 1) % self.now.n) }
+    {
+        self.corner(ring_index::next(i, self.n))
+    }
+
+    // The edge from corner i to the next.
+    #[tactic(auto, unfolding(crate::specs::Edges::edge_at))]
+    pub fn edge(&self, i: usize) -> MinorArc
+        requires { i < self.now.n }
+        ensures { result ≡ E.edge_at self.now.positions.now self.now.normals.now self.now.n i }
+    {
+        let start = self.corner(i);
+        let end = self.corner_after(i);
+        let normal = vec3::at(self.normals, i);
+        MinorArc { start, end, normal }
+    }
+
+    // Whether some edge has p on it.
+    pub fn any_edge_contains_position(&self, p: Vec3) -> bool
+        ensures { result ≡ E.on_edge self.now.positions.now self.now.normals.now self.now.n p }
+    {
+        (0..self.n).any(|i| self.edge(i).contains_position(p))
+    }
+
+    // Whether p is one of the corners.
+    pub fn has_vertex(&self, p: Vec3) -> bool
+        ensures { result ≡ E.has_vertex self.now.positions.now self.now.n p }
+    {
+        (0..self.n).any(|i| self.corner(i).equals(p))
+    }
 }

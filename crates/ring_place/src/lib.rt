@@ -1,4 +1,4 @@
-// Whether a place is inside a ring, over lent lists of n corners: positions and normals in threes.
+// Whether a place is inside a ring, by its border.
 // Total on every float; `requires` for indexes and lengths alone.
 #![tactic(auto)]
 
@@ -11,6 +11,7 @@ ghost use Rattle.ring_place.specs.Places as P;
 
 use cap::Cap;
 use minor_arc::{MinorArc, Mode};
+use ring_edges::Border;
 use vec3::Vec3;
 
 // An arc's crossings so far: whether their number is even, where it met the first edge, and where it met the edge before.
@@ -78,22 +79,14 @@ fn passed(n: usize, i: usize, at: Option<Vec3>, s: Crossings) -> Crossings
 
 // Where the arc meets edge i, with its candidate c at hand: an edge whose candidate misses the arc is not read.
 #[tactic(auto, using(minor_arc::proofs::Missing::missed_none, minor_arc::proofs::Missing::missed_other_none), unfolding(ring_edges::specs::Edges::edge_at, ring_edges::specs::Blocks::candidate_at))]
-fn point_at(
-    mode: Mode,
-    arc: MinorArc,
-    positions: &[f64],
-    normals: &[f64],
-    n: usize,
-    i: usize,
-    c: Vec3,
-) -> Option<Vec3>
-    requires { (i < n) × (n ≤ 512) × (3 * n ≤ length positions.now) × (3 * n ≤ length normals.now) × (c ≡ B.candidate_at arc.normal normals.now i) }
-    ensures { result ≡ meeting_point (meeting_of mode arc (E.edge_at positions.now normals.now n i)) }
+fn point_at(mode: Mode, arc: MinorArc, border: &Border, i: usize, c: Vec3) -> Option<Vec3>
+    requires { (i < border.now.n) × (c ≡ B.candidate_at arc.normal border.now.normals.now i) }
+    ensures { result ≡ meeting_point (meeting_of mode arc (E.edge_at border.now.positions.now border.now.normals.now border.now.n i)) }
 {
     if arc.misses(mode, c) {
         return None;
     }
-    let edge = ring_edges::edge(positions, normals, n, i);
+    let edge = border.edge(i);
     if arc.misses_other(mode, edge, c) {
         return None;
     }
@@ -104,21 +97,19 @@ fn point_at(
 fn pass_edges(
     mode: Mode,
     arc: MinorArc,
-    positions: &[f64],
-    normals: &[f64],
-    n: usize,
+    border: &Border,
     from: usize,
     to: usize,
     candidates: &[f64],
     before: Crossings,
 ) -> Crossings
-    requires { (from ≤ to) × (to ≤ n) × (n ≤ 512) × (3 * n ≤ length positions.now) × (3 * n ≤ length normals.now) × (candidates.now ≡ B.candidates arc.normal normals.now from (to - from)) }
-    ensures { result ≡ iterate (P.pass mode arc positions.now normals.now n) (to - from) from before }
+    requires { (from ≤ to) × (to ≤ border.now.n) × (candidates.now ≡ B.candidates arc.normal border.now.normals.now from (to - from)) }
+    ensures { result ≡ iterate (P.pass mode arc border.now.positions.now border.now.normals.now border.now.n) (to - from) from before }
 {
     let mut s = before;
     for i in from..to {
-        let c = ring_edges::candidate(arc.normal, normals, candidates, from, to, i);
-        s = passed(n, i, point_at(mode, arc, positions, normals, n, i, c), s);
+        let c = ring_edges::candidate(arc.normal, border.normals, candidates, from, to, i);
+        s = passed(border.n, i, point_at(mode, arc, border, i, c), s);
     }
     s
 }
@@ -127,37 +118,38 @@ fn pass_edges(
 fn pass_with(
     mode: Mode,
     arc: MinorArc,
-    positions: &[f64],
-    normals: &[f64],
-    n: usize,
+    border: &Border,
     from: usize,
     to: usize,
     work: &mut [f64],
     candidates: &mut [f64],
     before: Crossings,
 ) -> Crossings
-    requires { (from ≤ to) × (to ≤ n) × (n ≤ 512) × (3 * n ≤ length positions.now) × (3 * n ≤ length normals.now) × (length work.old ≡ 3 * (to - from)) × (length candidates.old ≡ 3 * (to - from)) }
-    ensures { result ≡ iterate (P.pass mode arc positions.now normals.now n) (to - from) from before }
+    requires { (from ≤ to) × (to ≤ border.now.n) × (length work.old ≡ 3 * (to - from)) × (length candidates.old ≡ 3 * (to - from)) }
+    ensures { result ≡ iterate (P.pass mode arc border.now.positions.now border.now.normals.now border.now.n) (to - from) from before }
 {
-    ring_edges::write_candidates(arc.normal, normals, from, to - from, work, candidates);
-    pass_edges(
-        mode, arc, positions, normals, n, from, to, candidates, before,
-    )
+    ring_edges::write_candidates(
+        arc.normal,
+        border.normals,
+        from,
+        to - from,
+        work,
+        candidates,
+    );
+    pass_edges(mode, arc, border, from, to, candidates, before)
 }
 
 // A block of edges: candidates first, so that no test waits for a root.
 fn pass_block(
     mode: Mode,
     arc: MinorArc,
-    positions: &[f64],
-    normals: &[f64],
-    n: usize,
+    border: &Border,
     from: usize,
     to: usize,
     before: Crossings,
 ) -> Crossings
-    requires { (from ≤ to) × (to ≤ from + 16) × (to ≤ n) × (n ≤ 512) × (3 * n ≤ length positions.now) × (3 * n ≤ length normals.now) }
-    ensures { result ≡ iterate (P.pass mode arc positions.now normals.now n) (to - from) from before }
+    requires { (from ≤ to) × (to ≤ from + 16) × (to ≤ border.now.n) }
+    ensures { result ≡ iterate (P.pass mode arc border.now.positions.now border.now.normals.now border.now.n) (to - from) from before }
 {
     let size = 3 * (to - from);
     let mut work = [0.0f64; 48];
@@ -165,9 +157,7 @@ fn pass_block(
     pass_with(
         mode,
         arc,
-        positions,
-        normals,
-        n,
+        border,
         from,
         to,
         &mut work[..size],
@@ -177,21 +167,14 @@ fn pass_block(
 }
 
 // Whether the arc crosses the edges an even number of times: block by block.
-pub fn crossed_evenly(
-    mode: Mode,
-    arc: MinorArc,
-    positions: &[f64],
-    normals: &[f64],
-    n: usize,
-) -> bool
-    requires { (n ≤ 512) × (3 * n ≤ length positions.now) × (3 * n ≤ length normals.now) }
-    ensures { result ≡ P.crossed_evenly mode arc positions.now normals.now n }
+pub fn crossed_evenly(mode: Mode, arc: MinorArc, border: &Border) -> bool
+    ensures { result ≡ P.crossed_evenly mode arc border.now.positions.now border.now.normals.now border.now.n }
 {
     let mut s = Crossings::new(true, Vec3::ZERO, Vec3::ZERO);
     let mut from = 0usize;
-    while from < n {
-        let to = ring_index::block_end(from, n);
-        s = pass_block(mode, arc, positions, normals, n, from, to, s);
+    while from < border.n {
+        let to = ring_index::block_end(from, border.n);
+        s = pass_block(mode, arc, border, from, to, s);
         from = to;
     }
     s.even
@@ -218,33 +201,21 @@ fn admits(mode: Mode, cap: Cap, p: Vec3) -> bool
 
 // Whether p is inside a ring with a cap and the insides a and b.
 #[tactic(auto, unfolding(crate::specs::Places::inside_by))]
-pub fn inside_by(
-    mode: Mode,
-    cap: Cap,
-    a: Vec3,
-    b: Vec3,
-    positions: &[f64],
-    normals: &[f64],
-    n: usize,
-    p: Vec3,
-) -> bool
-    requires { (n ≤ 512) × (3 * n ≤ length positions.now) × (3 * n ≤ length normals.now) }
-    ensures { result ≡ P.inside_by mode cap a b positions.now normals.now n p }
+pub fn inside_by(mode: Mode, cap: Cap, a: Vec3, b: Vec3, border: &Border, p: Vec3) -> bool
+    ensures { result ≡ P.inside_by mode cap a b border.now.positions.now border.now.normals.now border.now.n p }
 {
     if !admits(mode, cap, p) {
         return false;
     }
-    p.equals(a)
-        || p.equals(b)
-        || crossed_evenly(mode, MinorArc::new(from(a, b, p), p), positions, normals, n)
+    p.equals(a) || p.equals(b) || crossed_evenly(mode, MinorArc::new(from(a, b, p), p), border)
 }
 
 // Whether p is right of edge i by more than 2^-52.
-fn is_within(normals: &[f64], i: usize, p: Vec3) -> bool
-    requires { 3 * i + 2 < length normals.now }
-    ensures { result ≡ P.within normals.now i p }
+fn is_within(border: &Border, i: usize, p: Vec3) -> bool
+    requires { i < border.now.n }
+    ensures { result ≡ P.within border.now.normals.now i p }
 {
-    -p.dot_prod(vec3::at(normals, i)) > numbers::EPSILON
+    -p.dot_prod(vec3::at(border.normals, i)) > numbers::EPSILON
 }
 
 // Whether p is inside a ring of three corners: no corner, and right of each edge.
@@ -253,6 +224,7 @@ pub fn in_triangle(positions: &[f64], normals: &[f64], p: Vec3) -> bool
     requires { (9 ≤ length positions.now) × (9 ≤ length normals.now) }
     ensures { result ≡ P.in_triangle positions.now normals.now p }
 {
-    let corner = ring_edges::has_vertex(positions, 3, p);
-    !corner & is_within(normals, 0, p) & is_within(normals, 1, p) & is_within(normals, 2, p)
+    let border = Border::new(positions, normals, 3);
+    let corner = border.has_vertex(p);
+    !corner & is_within(&border, 0, p) & is_within(&border, 1, p) & is_within(&border, 2, p)
 }

@@ -83,8 +83,8 @@ pub fn list_apart(ids: &[u16], classes: &[u8], apart: &mut [u16]) -> usize
     ensures { (take result apart.new ≡ apart_of ids.now classes.now) × (result ≤ length ids.now) }
 {
     let mut k = 0;
-    for j in 0..ids.len() {
-        apart[k] = ids[j];
+    for (j, id) in ids.iter().enumerate() {
+        apart[k] = *id;
         k = past(k, ring_ears::is_convex(ids, classes, j));
     }
     k

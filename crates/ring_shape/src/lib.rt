@@ -1,4 +1,4 @@
-// The shape of a ring: convex, simple, and the same as another. Over lent lists of n corners: positions and normals in threes, and classes.
+// The shape of a ring, by its border: convex, simple. And whether it is the same as another, over lent lists of n corners: positions in threes, and classes.
 // Total on every float; `requires` for indexes and lengths alone.
 #![tactic(auto)]
 
@@ -7,16 +7,16 @@ ghost use Rattle.ring_shape.specs.Shapes as S;
 
 use base::Side;
 use minor_arc::Mode;
+use ring_edges::Border;
 
 // The side at corner i, by the corners before and after it.
 #[tactic(auto, unfolding(crate::specs::Shapes::side_at))]
-fn side(positions: &[f64], n: usize, i: usize) -> Side
-    requires { (i < n) × (n ≤ 512) × (3 * n ≤ length positions.now) }
-    ensures { result ≡ S.side_at positions.now n i }
+fn side(border: &Border, i: usize) -> Side
+    requires { i < border.now.n }
+    ensures { result ≡ S.side_at border.now.positions.now border.now.n i }
 {
-    let before = vec3::at(positions, ring_index::previous(i, n));
-    let after = vec3::at(positions, ring_index::next(i, n));
-    base::side_of(before, vec3::at(positions, i), after)
+    let before = border.corner(ring_index::previous(i, border.n));
+    base::side_of(before, border.corner(i), border.corner_after(i))
 }
 
 // Whether a side is left, or whether it is right.
@@ -31,49 +31,44 @@ fn is_to(left: bool, s: Side) -> bool
 }
 
 // Whether some corner's side is left, or whether some corner's is right.
-fn any_side(left: bool, positions: &[f64], n: usize) -> bool
-    requires { (n ≤ 512) × (3 * n ≤ length positions.now) }
-    ensures { result ≡ S.any_side left positions.now n }
+fn any_side(left: bool, border: &Border) -> bool
+    ensures { result ≡ S.any_side left border.now.positions.now border.now.n }
 {
-    (0..n).any(|i| is_to(left, side(positions, n, i)))
+    (0..border.n).any(|i| is_to(left, side(border, i)))
 }
 
 // Whether the ring turns one way only; one of three corners does.
 #[tactic(auto, unfolding(crate::specs::Shapes::convex))]
-pub fn is_convex(positions: &[f64], n: usize) -> bool
-    requires { (n ≤ 512) × (3 * n ≤ length positions.now) }
-    ensures { result ≡ S.convex positions.now n }
+pub fn is_convex(border: &Border) -> bool
+    ensures { result ≡ S.convex border.now.positions.now border.now.n }
 {
-    n <= 3 || !(any_side(true, positions, n) && any_side(false, positions, n))
+    border.n <= 3 || !(any_side(true, border) && any_side(false, border))
 }
 
 // Whether corner i and the next lie on more than one great circle: they are equal or antipodes.
 #[tactic(auto, unfolding(crate::specs::Shapes::no_circle))]
-fn no_circle(positions: &[f64], n: usize, i: usize) -> bool
-    requires { (i < n) × (n ≤ 512) × (3 * n ≤ length positions.now) }
-    ensures { result ≡ S.no_circle positions.now n i }
+fn no_circle(border: &Border, i: usize) -> bool
+    requires { i < border.now.n }
+    ensures { result ≡ S.no_circle border.now.positions.now border.now.n i }
 {
-    let a = vec3::at(positions, i);
-    let b = vec3::at(positions, ring_index::next(i, n));
+    let a = border.corner(i);
+    let b = border.corner_after(i);
     a.equals(b) | a.is_antipode_of(b)
 }
 
-fn any_without_circle(positions: &[f64], n: usize) -> bool
-    requires { (n ≤ 512) × (3 * n ≤ length positions.now) }
-    ensures { result ≡ S.any_without_circle positions.now n }
+fn any_without_circle(border: &Border) -> bool
+    ensures { result ≡ S.any_without_circle border.now.positions.now border.now.n }
 {
-    (0..n).any(|i| no_circle(positions, n, i))
+    (0..border.n).any(|i| no_circle(border, i))
 }
 
 // Whether edges i and j meet in a point; collinear ones do not.
 #[tactic(auto, unfolding(crate::specs::Shapes::edges_meet))]
-fn edges_meet(mode: Mode, positions: &[f64], normals: &[f64], n: usize, i: usize, j: usize) -> bool
-    requires { (i < n) × (j < n) × (n ≤ 512) × (3 * n ≤ length positions.now) × (3 * n ≤ length normals.now) }
-    ensures { result ≡ S.edges_meet mode positions.now normals.now n i j }
+fn edges_meet(mode: Mode, border: &Border, i: usize, j: usize) -> bool
+    requires { (i < border.now.n) × (j < border.now.n) }
+    ensures { result ≡ S.edges_meet mode border.now.positions.now border.now.normals.now border.now.n i j }
 {
-    let one = ring_edges::edge(positions, normals, n, i);
-    let other = ring_edges::edge(positions, normals, n, j);
-    one.intersection(mode, other).is_some()
+    border.edge(i).intersection(mode, border.edge(j)).is_some()
 }
 
 // Where the edges end that are not contiguous with edge i: the last edge is contiguous with the first.
@@ -86,30 +81,29 @@ fn end_of(n: usize, i: usize) -> usize
 }
 
 // Whether edge i meets one of those that come later and are not contiguous with it.
-fn meets_later(mode: Mode, positions: &[f64], normals: &[f64], n: usize, i: usize) -> bool
-    requires { (3 < n) × (i + 1 < n) × (n ≤ 512) × (3 * n ≤ length positions.now) × (3 * n ≤ length normals.now) }
-    ensures { result ≡ S.meets_later mode positions.now normals.now n i }
+fn meets_later(mode: Mode, border: &Border, i: usize) -> bool
+    requires { (3 < border.now.n) × (i + 1 < border.now.n) }
+    ensures { result ≡ S.meets_later mode border.now.positions.now border.now.normals.now border.now.n i }
 {
-    (i + 2..end_of(n, i)).any(|j| edges_meet(mode, positions, normals, n, i, j))
+    (i + 2..end_of(border.n, i)).any(|j| edges_meet(mode, border, i, j))
 }
 
-fn any_meets_later(mode: Mode, positions: &[f64], normals: &[f64], n: usize) -> bool
-    requires { (3 < n) × (n ≤ 512) × (3 * n ≤ length positions.now) × (3 * n ≤ length normals.now) }
-    ensures { result ≡ S.any_meets_later mode positions.now normals.now n }
+fn any_meets_later(mode: Mode, border: &Border) -> bool
+    requires { 3 < border.now.n }
+    ensures { result ≡ S.any_meets_later mode border.now.positions.now border.now.normals.now border.now.n }
 {
-    (0..n - 1).any(|i| meets_later(mode, positions, normals, n, i))
+    (0..border.n - 1).any(|i| meets_later(mode, border, i))
 }
 
 // Whether each two neighbours have one great circle, and no two edges that are not contiguous meet.
 #[tactic(auto, unfolding(crate::specs::Shapes::simple))]
-pub fn is_simple(mode: Mode, positions: &[f64], normals: &[f64], n: usize) -> bool
-    requires { (n ≤ 512) × (3 * n ≤ length positions.now) × (3 * n ≤ length normals.now) }
-    ensures { result ≡ S.simple mode positions.now normals.now n }
+pub fn is_simple(mode: Mode, border: &Border) -> bool
+    ensures { result ≡ S.simple mode border.now.positions.now border.now.normals.now border.now.n }
 {
-    if any_without_circle(positions, n) {
+    if any_without_circle(border) {
         return false;
     }
-    n <= 3 || !any_meets_later(mode, positions, normals, n)
+    border.n <= 3 || !any_meets_later(mode, border)
 }
 
 // Whether corner i of one ring and corner j of the other have one position and one class.

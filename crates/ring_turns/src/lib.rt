@@ -52,7 +52,7 @@ fn edge_normal(list: &[f64], work: &[f64], n: usize, i: usize) -> Vec3
     normal_of(vec3::at(list, i), vec3::raw(work, i))
 }
 
-// The normals of all edges, each in the place of its product.
+// The normals of all edges, each in the place of its product. By its index: an edge reads its start in the list too, and three floats stand for one vector.
 fn turn_to_normals(list: &[f64], n: usize, work: &mut [f64])
     requires { (n ≤ 512) × (3 * n ≤ length list.now) × (work.old ≡ B.products list.now n) }
     ensures { work.new ≡ T.edge_normals list.now n }
@@ -100,8 +100,8 @@ fn write_sines(list: &[f64], edges: &[f64], n: usize, from: usize, k: usize, out
     requires { (from + k ≤ n) × (n ≤ 512) × (3 * n ≤ length list.now) × (edges.now ≡ T.edge_normals list.now n) × (length out.old ≡ k) }
     ensures { out.new ≡ B.sines list.now n from k }
 {
-    for j in 0..k {
-        out[j] = sine(list, edges, n, from + j);
+    for (j, s) in out.iter_mut().enumerate() {
+        *s = sine(list, edges, n, from + j);
     }
 }
 
@@ -128,8 +128,8 @@ fn write_proportions(
     requires { (from + k ≤ n) × (n ≤ 512) × (edges.now ≡ T.edge_normals list.now n) × (sines.now ≡ B.sines list.now n from k) × (length sines.now ≡ k) × (length out.old ≡ k) }
     ensures { out.new ≡ B.row (B.proportion_at list.now n) from k }
 {
-    for j in 0..k {
-        out[j] = arctangents::proportion(sines[j], cosine(list, edges, n, from + j));
+    for (j, t) in out.iter_mut().enumerate() {
+        *t = arctangents::proportion(sines[j], cosine(list, edges, n, from + j));
     }
 }
 
@@ -172,7 +172,8 @@ fn turn(
     arctangents::angle_by(sines[j], x, parts[j])
 }
 
-// The turns of the edges from `from` up to `to`, with their sines and arctangents at hand, added to those before.
+// The turns of the edges from `from` up to `to`, with their sines and arctangents at hand, added to those before. By the edge's index, which the normals, the
+// sines and the arctangents are all read by.
 fn add_turns(
     list: &[f64],
     edges: &[f64],
@@ -237,7 +238,7 @@ fn add_block(list: &[f64], edges: &[f64], n: usize, from: usize, to: usize, befo
     )
 }
 
-// The sum of all turns, from the second edge on, the last turn last: block by block.
+// The sum of all turns, from the second edge on, the last turn last: block by block, each from where the one before ended.
 pub fn turn_sum(list: &[f64], edges: &[f64], n: usize) -> Angle
     requires { (n ≤ 512) × (3 * n ≤ length list.now) × (edges.now ≡ T.edge_normals list.now n) }
     ensures { result ≡ T.turn_sum list.now n }

@@ -2,7 +2,7 @@
 #![tactic(auto)]
 
 ghost use Rattle.std.specs.Prelude.{◌≡◌};
-ghost use Rattle.loop_ask.specs.Answers.{place_code, told_placed};
+ghost use Rattle.loop_ask.specs.Answers.{told_placed};
 ghost use Rattle.loop_distances.specs.Distances.{told_distance};
 ghost use Rattle.scene_store.specs.Store as St;
 ghost use Rattle.scene_far.specs.Far as F;
@@ -38,22 +38,11 @@ fn far_in(
     )
 }
 
-// The number of a place's answer.
-fn place_number(place: Place) -> u8
-    ensures { result ≡ place_code place }
-{
-    match place {
-        Place::Outside => 0,
-        Place::Inside => 1,
-        Place::Mute => 2,
-    }
-}
-
-// The line of a place, by its answer's number.
+// The line of a place, by its answer's number, which is its index among the variants.
 fn place_said(number: usize, placed: Result<Place, Refusal>) -> Result<Line, Refusal>
     ensures { F.told_said result ≡ F.place_said number (told_placed placed) }
 {
-    Ok(Line::Place(number, place_number(placed?)))
+    Ok(Line::Place(number, placed? as u8))
 }
 
 // The line of a far, by the bits of its squared chord.

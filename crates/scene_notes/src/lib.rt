@@ -18,10 +18,11 @@ pub struct Notes {
     pub met: usize,
     pub given: usize,
     pub used: usize,
+    // An array with a length beside it, `met`: there is no heap.
     pub areas: [Area; 16],
 }
 
-// The index of a number among the areas met, or how many there are.
+// The index of a number among the areas met, or how many there are. It is no `Option`, since the definitions go on with that index: past the last is not met.
 pub fn index_of(c: Notes, number: usize) -> usize
     requires { N.Kept c }
     ensures value { result ≡ N.index_of (N.areas_of c) number }
@@ -120,7 +121,8 @@ pub fn judge_area(c: Notes, number: usize, count: usize) -> Result<(), (Fault, u
     Ok(())
 }
 
-// The index of the first of a record's numbers that is zero, or how many there are.
+// The index of the first of a record's numbers that is zero, or how many there are, as its definition tells it. It and `first_unmet` are one call of `position` each,
+// and differ in the test.
 fn first_zero(numbers: &[usize]) -> usize
     ensures { result ≡ N.first_zero numbers.now }
 {

@@ -40,6 +40,7 @@ fn run_in(
     ensures wrote { Wrote out.old 0 (Sc.told_text (Sc.told_of s.now positions.old normals.old classes.old)) out.new result }
     ensures upper_bound { result ≤ 196989 }
 {
+    // A `loop`: how many records there are is known only once the last was read.
     let mut c = scene_notes::fresh();
     let mut written = 0;
     loop {
@@ -64,6 +65,7 @@ pub fn run(s: &[u8], out: &mut [u8]) -> usize
     if 65536 < s.len() {
         return scene_lines::put_line(out, 0, Line::Refused(28, 0, 65536));
     }
+    // The store is three arrays with a length in the notes: there is no heap.
     let mut positions = [0.0f64; 3072];
     let mut normals = [0.0f64; 3072];
     let mut classes = [0u8; 1024];

@@ -3,7 +3,7 @@
 
 ghost use Rattle.std.specs.Prelude.{◌≡◌, ◌+◌, ◌*◌, ◌≤◌, ◌<◌, length};
 ghost use Rattle.judge.specs.Refusals.{number};
-ghost use Rattle.loop_relate.specs.Relations.{relation_code, told_related};
+ghost use Rattle.loop_relate.specs.Relations.{told_related};
 ghost use Rattle.scene_store.specs.Store as St;
 ghost use Rattle.scene_far.specs.Far as F;
 ghost use Rattle.scene_notes.specs.Judged as J;
@@ -19,7 +19,7 @@ use scene_records::{Fault, Read};
 use scene_store::Area;
 
 // What a record comes to: there is none; its fault and that field's offset; a call's own refusal, of a list of positions with the index of the first that
-// is refused; or its line. A refusal goes by its number, as the definitions tell it.
+// is refused; or its line. A refusal goes by its number, as the definitions tell it; and this is no `Result`, since none of the five is passed on by `?`.
 #[derive(Clone, Copy)]
 pub enum Report {
     End,
@@ -188,27 +188,13 @@ fn place_step(
     }
 }
 
-// The number of a relation.
-fn relation_number(relation: Relation) -> u8
-    ensures { result ≡ relation_code relation }
-{
-    match relation {
-        Relation::Disjoint => 0,
-        Relation::Touching => 1,
-        Relation::Intersecting => 2,
-        Relation::Containing => 3,
-        Relation::Within => 4,
-        Relation::Equal => 5,
-    }
-}
-
-// The line of a pair, by its relation's number.
+// The line of a pair, by its relation's number, which is its index among the variants.
 fn pair_told(p: Result<Relation, Refusal>, number: usize, other: usize) -> Report
     ensures { result ≡ S.pair_report (told_related p) number other }
 {
     match p {
         Err(r) => Report::Refused(r.number()),
-        Ok(relation) => Report::Line(Line::Pair(number, other, relation_number(relation))),
+        Ok(relation) => Report::Line(Line::Pair(number, other, relation as u8)),
     }
 }
 
@@ -264,6 +250,7 @@ fn pair_step(
 }
 
 // The record at the notes' offset, by its kind. On an end, a fault and a refusal the lent store keeps what it held (`S.outcome_of`).
+#[tactic(auto, using(crate::proofs::Taken::step_is))]
 pub fn step(
     s: &[u8],
     c: Notes,

@@ -65,6 +65,7 @@ pub fn build_area(
         ≡ St.built_at (floats_at s.now at count) used positions.old normals.old classes.old }
 {
     let size = 3 * count;
+    // A work array of the largest record's size with a length beside it, as in `triangle_count` of the largest loop's: there is no heap.
     let mut list = [0.0f64; 3072];
     build_from(
         s,

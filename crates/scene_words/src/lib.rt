@@ -58,7 +58,7 @@ pub fn put_number(out: &mut [u8], at: usize, n: usize) -> usize
     put_byte(out, d, (48 + n % 10) as u8)
 }
 
-// The byte of a hexadecimal digit, in upper case.
+// The byte of a hexadecimal digit, in upper case: a letter of the text, and no kind by its number.
 fn hex_byte(digit: u64) -> u8
     requires { digit < 16 }
     ensures { result ≡ W.hex_byte digit }
@@ -82,6 +82,7 @@ pub fn put_bits(out: &mut [u8], at: usize, bits: u64) -> usize
     at + 16
 }
 
+// It stays beside `put_turned` and `put_sure`: one for all three would take both words, and each bound on what it writes would still stand at the caller.
 fn put_ring(out: &mut [u8], at: usize, mute: bool) -> usize
     requires { at + 6 ≤ length out.old }
     ensures wrote { W.Wrote out.old at (W.ring_word mute) out.new result }

@@ -16,9 +16,10 @@ use vec3::Vec3;
 fn yes(b: bool) -> u32
     ensures { result ≡ Leaves.yes b }
 {
-    if b { 1 } else { 0 }
+    b as u32
 }
 
+// A side's number is not its index among the variants.
 fn side_no(s: Side) -> u32
     ensures { result ≡ Leaves.side_no s }
 {
@@ -29,6 +30,7 @@ fn side_no(s: Side) -> u32
     }
 }
 
+// A leaf goes by its number, here and in `number` and `case`, since runs beside the Rust ask by it.
 #[tactic(auto, using(crate::proofs::Tables::past), unfolding(crate::specs::Leaves::vector_of))]
 fn vector(op: u32, a: Vec3, b: Vec3, c: Vec3) -> Vec3
     ensures { result ≡ Leaves.vector_of op a b c }
@@ -52,6 +54,7 @@ fn vector(op: u32, a: Vec3, b: Vec3, c: Vec3) -> Vec3
     }
 }
 
+#[tactic(auto, using(crate::proofs::Tables::past, root::proofs::Floats::quotient), unfolding(crate::specs::Leaves::number_of))]
 fn number(op: u32, a: Vec3, b: Vec3, c: Vec3) -> f64
     ensures { result ≡ Leaves.number_of op a b c }
 {
@@ -96,6 +99,7 @@ fn case(op: u32, a: Vec3, b: Vec3, c: Vec3) -> u32
     }
 }
 
+#[tactic(auto, unfolding(crate::specs::Leaves::leaf_vec))]
 #[unsafe(no_mangle)]
 pub extern "C" fn leaf_vec(op: u32, input: &[f64], out: &mut [f64]) -> u32
     ensures { outcome result out.new ≡ Leaves.leaf_vec op input.now out.old }
@@ -122,6 +126,7 @@ pub extern "C" fn leaf_vec(op: u32, input: &[f64], out: &mut [f64]) -> u32
     0
 }
 
+#[tactic(auto, unfolding(crate::specs::Leaves::leaf_number))]
 #[unsafe(no_mangle)]
 pub extern "C" fn leaf_number(op: u32, input: &[f64]) -> u64
     ensures { result ≡ Leaves.leaf_number op input.now }
@@ -140,6 +145,7 @@ pub extern "C" fn leaf_number(op: u32, input: &[f64]) -> u64
     ))
 }
 
+#[tactic(auto, unfolding(crate::specs::Leaves::leaf_case))]
 #[unsafe(no_mangle)]
 pub extern "C" fn leaf_case(op: u32, input: &[f64]) -> u32
     ensures { result ≡ Leaves.leaf_case op input.now }
@@ -159,6 +165,7 @@ pub extern "C" fn leaf_case(op: u32, input: &[f64]) -> u32
 }
 
 // The bounding cap of a list in the order given: its centre and its radius.
+#[tactic(auto, unfolding(crate::specs::Leaves::leaf_cap))]
 #[unsafe(no_mangle)]
 pub extern "C" fn leaf_cap(list: &[f64], out: &mut [f64]) -> u32
     ensures { outcome result out.new ≡ Leaves.leaf_cap list.now out.old }

@@ -123,8 +123,8 @@ pub fn read_floats(s: &[u8], at: usize, out: &mut [f64])
     requires { at + 8 * length out.old ≤ length s.now }
     ensures { out.new ≡ floats_at s.now at (length out.old) }
 {
-    for i in 0..out.len() {
-        out[i] = float_at(s, at + 8 * i);
+    for (i, x) in out.iter_mut().enumerate() {
+        *x = float_at(s, at + 8 * i);
     }
 }
 
@@ -133,8 +133,8 @@ pub fn read_numbers(s: &[u8], out: &mut [u16])
     requires { 2 * length out.old ≤ length s.now }
     ensures { out.new ≡ numbers_at s.now (length out.old) }
 {
-    for i in 0..out.len() {
-        out[i] = u16_at(s, 2 * i) as u16;
+    for (i, n) in out.iter_mut().enumerate() {
+        *n = u16_at(s, 2 * i) as u16;
     }
 }
 
@@ -142,8 +142,8 @@ pub fn put_floats(out: &mut [u8], at: usize, from: &[f64])
     requires { at + 8 * length from.now ≤ length out.old }
     ensures { out.new ≡ sets out.old at (floats_bytes from.now) }
 {
-    for i in 0..from.len() {
-        put_float(out, at + 8 * i, from[i]);
+    for (i, x) in from.iter().enumerate() {
+        put_float(out, at + 8 * i, *x);
     }
 }
 
@@ -164,7 +164,7 @@ pub fn put_numbers(out: &mut [u8], from: &[u16])
     requires { 2 * length from.now ≤ length out.old }
     ensures { out.new ≡ sets out.old 0 (numbers_bytes from.now) }
 {
-    for i in 0..from.len() {
-        put_u16(out, 2 * i, wide_number(from[i]));
+    for (i, n) in from.iter().enumerate() {
+        put_u16(out, 2 * i, wide_number(*n));
     }
 }

@@ -1,19 +1,18 @@
--- The first position that is refused ends the loop.
-use Rattle.std.proofs.Common.{arith, ap, ◌∙◌}
-use Rattle.laws.proofs.Loops.{look, look_on, look_hit, look_end}
-use Rattle.judge.specs.Judge.{first_refused, fault_of}
+-- The positions are searched from the first on for one that is refused.
+use Rattle.std.proofs.Common.{unwrap_or, ap, ◌∙◌, arith, rules, tests}
+use Rattle.laws.proofs.Loops.{first_at_le}
+use Rattle.laws.proofs.Ranges.{find_below}
+use Rattle.laws.proofs.Folds.{found_or_end}
+use Rattle.judge.specs.Judge.{is_refused, first_refused}
 use Rattle.judge.proofs.Numbers.{is_err_refused}
 use Rattle.judge.proofs.first_refused.Goals as goal
 
-pub loop-i-init : goal.loop-i-init
+pub returns : goal.returns
 unfolding first_refused
-loop-i-init c = look
-
-pub returns-then-is_err-clause-value : goal.returns-then-is_err-clause-value
-returns-then-is_err-clause-value c = look_hit c.loop-i.invariant (is_err_refused _ c.is_err.ensures.value (c.fault.ensures ∙ ap fault_of c.at.ensures)) (omega arith) c.if-is_err.true
-
-pub loop-i-preserved : goal.loop-i-preserved
-loop-i-preserved c = look_on c.loop-i.invariant (is_err_refused _ c.is_err.ensures.value (c.fault.ensures ∙ ap fault_of c.at.ensures)) (omega arith) c.if-is_err.false
-
-pub returns-clause-value : goal.returns-clause-value
-returns-clause-value c = look_end c.loop-i.invariant c.loop-i-test.false
+returns c =
+    let n = c.args.n in
+    let p = is_refused c.args.ps.now in
+    let least = first_at_le p n 0 in
+    let e = find_below p n _ _ c.find.result c.find.ensures.ran (λ x b q k. search (rules, tests, is_err_refused)) in
+    let value = c.unwrap_or.ensures ∙ ap (λ o. unwrap_or o n) e ∙ found_or_end _ n (omega arith) in
+    record { value = value; upper_bound = omega (arith, value) }

@@ -1,7 +1,7 @@
 -- The corners that are left are searched from the first on.
 use Rattle.std.proofs.Common.{length, rules, tests}
 use Rattle.laws.proofs.Ranges.{any_below}
-use Rattle.ring_ears.specs.Ears.{blocks, blocked}
+use Rattle.ring_ears.specs.Ears.{blocks}
 use Rattle.ring_ears.proofs.is_blocked.Goals as goal
 
 pub returns : goal.returns

@@ -1,7 +1,7 @@
 -- Those listed are searched from the first on.
 use Rattle.std.proofs.Common.{length, rules, tests}
 use Rattle.laws.proofs.Ranges.{any_below}
-use Rattle.ring_reflex.specs.Apart.{holds, held}
+use Rattle.ring_reflex.specs.Apart.{holds}
 use Rattle.ring_reflex.proofs.is_one_held.Goals as goal
 
 pub returns : goal.returns

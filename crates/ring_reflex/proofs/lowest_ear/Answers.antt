@@ -2,7 +2,6 @@
 use Rattle.std.proofs.Common.{length, rules, tests}
 use Rattle.laws.proofs.Ranges.{find_below}
 use Rattle.ring_ears.specs.Ears.{ear}
-use Rattle.ring_reflex.specs.Lowest.{lowest}
 use Rattle.ring_reflex.proofs.lowest_ear.Goals as goal
 
 pub returns : goal.returns

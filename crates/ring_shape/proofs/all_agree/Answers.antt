@@ -1,5 +1,5 @@
 -- All corners are compared, from the first on.
-use Rattle.std.proofs.Common.{◌-◌, ◌+◌, rules, tests}
+use Rattle.std.proofs.Common.{rules, tests}
 use Rattle.laws.proofs.Ranges.{all_below}
 use Rattle.ring_shape.specs.Shapes.{agree_at, all_agree}
 use Rattle.ring_shape.proofs.all_agree.Goals as goal

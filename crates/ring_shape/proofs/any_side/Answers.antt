@@ -1,5 +1,5 @@
 -- The corners are searched from the first on.
-use Rattle.std.proofs.Common.{◌-◌, ◌+◌, rules, tests}
+use Rattle.std.proofs.Common.{rules, tests}
 use Rattle.laws.proofs.Ranges.{any_below}
 use Rattle.ring_shape.specs.Shapes.{turns_to, any_side}
 use Rattle.ring_shape.proofs.any_side.Goals as goal
@@ -8,4 +8,5 @@ pub returns : goal.returns
 unfolding any_side
 returns c =
     let a = c.args in
-    any_below (turns_to a.left a.positions.now a.n) a.n _ _ _ c.any.ensures.ran (λ x b q k. search (rules, tests))
+    let b = a.border.now in
+    any_below (turns_to a.left b.positions.now b.n) b.n _ _ _ c.any.ensures.ran (λ x q r k. search (rules, tests))

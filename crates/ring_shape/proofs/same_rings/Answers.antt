@@ -1,5 +1,5 @@
 -- The offsets are searched from 0 on.
-use Rattle.std.proofs.Common.{◌-◌, ◌+◌, rules, tests}
+use Rattle.std.proofs.Common.{rules, tests}
 use Rattle.laws.proofs.Ranges.{any_below}
 use Rattle.ring_shape.specs.Shapes.{same_from, same_rings}
 use Rattle.ring_shape.proofs.same_rings.Goals as goal

@@ -1,0 +1,15 @@
+-- One proportion more stands there.
+use Rattle.std.proofs.Common.{refl, arith}
+use Rattle.laws.proofs.Blocks.{fill, fill_on_one, fill_all_one}
+use Rattle.ring_turns.proofs.Edges.{proportion_held}
+use Rattle.ring_turns.proofs.write_proportions.Goals as goal
+
+pub loop-j-init : goal.loop-j-init
+loop-j-init c = fill (λ j. refl) (omega arith)
+
+pub loop-j-preserved : goal.loop-j-preserved
+loop-j-preserved c =
+    fill_on_one c.loop-j.invariant refl (proportion_held _ _ _ _ c.requires.3 c.cosine.ensures c.proportion.ensures (omega arith)) (omega arith)
+
+pub returns : goal.returns
+returns c = fill_all_one c.loop-j.invariant (omega arith) (omega arith)

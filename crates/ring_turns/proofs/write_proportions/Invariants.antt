@@ -1,0 +1,8 @@
+-- The proportions stand at each index before j.
+use Rattle.std.proofs.Common.{◌+◌, ◌∷◌, []}
+use Rattle.laws.proofs.Blocks.{Fill}
+use Rattle.ring_turns.specs.Blocks.{proportion_at}
+use Rattle.ring_turns.proofs.write_proportions.Given as goal
+
+abbrev pub invariant-loop-j : goal.invariant-loop-j
+invariant-loop-j l = Fill 1 (λ i. proportion_at l.list l.n (l.from + i) ∷ []) l.k l.j l.initial.out l.out

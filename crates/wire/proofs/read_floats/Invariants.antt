@@ -1,0 +1,8 @@
+-- The floats before i stand in the array.
+use Rattle.std.proofs.Common.{length}
+use Rattle.laws.proofs.Blocks.{Fill}
+use Rattle.wire.specs.Wire.{float_block}
+use Rattle.wire.proofs.read_floats.Given as goal
+
+abbrev pub invariant-loop-i : goal.invariant-loop-i
+invariant-loop-i l = Fill 1 (float_block l.s l.at) (length l.initial.out) l.i l.initial.out l.out

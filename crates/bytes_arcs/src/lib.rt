@@ -10,7 +10,7 @@ ghost use Rattle.bytes_arcs.specs.Arcs as Arcs;
 
 use arc_relations::MinorArcRelation;
 use base::Side;
-use bytes_loop::refusal;
+use bytes_loop::refused;
 use judge::Refusal;
 use minor_arc::{MinorArc, Mode};
 use vec3::Vec3;
@@ -71,7 +71,7 @@ fn sided(s: Result<Side, Refusal>) -> u32
     ensures { result ≡ Arcs.number_of (Answers.told_sided s) }
 {
     match s {
-        Err(r) => refusal(r),
+        Err(r) => refused(r),
         Ok(Side::Collinear) => 0,
         Ok(Side::Left) => 1,
         Ok(Side::Right) => 2,
@@ -82,7 +82,7 @@ fn held(c: Result<bool, Refusal>) -> u32
     ensures { result ≡ Arcs.number_of (Answers.told_contained c) }
 {
     match c {
-        Err(r) => refusal(r),
+        Err(r) => refused(r),
         Ok(within) => within as u32,
     }
 }
@@ -94,7 +94,7 @@ fn leave_point(out: &mut [u8], number: u32, p: Vec3) -> u32
     ensures { outcome result out.new ≡ Arcs.leave (Answers.answer (pos number) (p ∷ [])) out.old }
 {
     if out.len() < 24 {
-        return refusal(Refusal::NoRoom);
+        return refused(Refusal::NoRoom);
     }
     wire::put_vec(out, 0, p);
     number
@@ -105,7 +105,7 @@ fn leave_arc(out: &mut [u8], number: u32, a: MinorArc) -> u32
     ensures { outcome result out.new ≡ Arcs.leave (Answers.answer (pos number) (Answers.vectors a)) out.old }
 {
     if out.len() < 72 {
-        return refusal(Refusal::NoRoom);
+        return refused(Refusal::NoRoom);
     }
     wire::put_vec(out, 0, a.start);
     wire::put_vec(out, 24, a.end);
@@ -118,7 +118,7 @@ fn leave_made(out: &mut [u8], m: Result<MinorArc, Refusal>) -> u32
     ensures { outcome result out.new ≡ Arcs.leave (Answers.told_made m) out.old }
 {
     match m {
-        Err(r) => refusal(r),
+        Err(r) => refused(r),
         Ok(a) => leave_arc(out, 0, a),
     }
 }
@@ -128,7 +128,7 @@ fn leave_met(out: &mut [u8], m: Result<Option<Vec3>, Refusal>) -> u32
     ensures { outcome result out.new ≡ Arcs.leave (Answers.told_met m) out.old }
 {
     match m {
-        Err(r) => refusal(r),
+        Err(r) => refused(r),
         Ok(None) => 0,
         Ok(Some(p)) => leave_point(out, 1, p),
     }
@@ -139,7 +139,7 @@ fn leave_related(out: &mut [u8], x: Result<MinorArcRelation, Refusal>) -> u32
     ensures { outcome result out.new ≡ Arcs.leave (Answers.told_related x) out.old }
 {
     match x {
-        Err(r) => refusal(r),
+        Err(r) => refused(r),
         Ok(MinorArcRelation::Disjoint) => 0,
         Ok(MinorArcRelation::Intersecting(p)) => leave_point(out, 1, p),
         Ok(MinorArcRelation::Touching(p)) => leave_point(out, 2, p),

@@ -25,7 +25,7 @@ pub enum Question {
 pub fn tell(answer: Result<u32, Refusal>) -> u32
     ensures { result ≡ As.number_of (As.told_number answer) }
 {
-    answer.unwrap_or_else(bytes_loop::refusal)
+    answer.unwrap_or_else(bytes_loop::refused)
 }
 
 // A place's number, as C reads it, is its index among the variants.
@@ -35,10 +35,18 @@ fn placed(p: Place) -> u32
     p as u32
 }
 
-pub fn answered(yes: bool) -> u32
+// A yes is 1, and a no is 0.
+pub fn yes_or_no(yes: bool) -> u32
     ensures { An.answer result ≡ An.bool_told yes }
 {
     yes as u32
+}
+
+// A yes or a no, or what it is refused for, as a caller is told it.
+pub fn answered(a: Result<bool, Refusal>) -> u32
+    ensures { result ≡ As.number_of (An.told_answered a) }
+{
+    tell(a.map(yes_or_no))
 }
 
 // The refusal of a position whose length is wrong: the loop's own, or else 1.
@@ -64,12 +72,12 @@ fn query(
         Question::Place => {
             loop_ask::contains_position(h, positions, normals, classes, p).map(placed)
         }
-        Question::Vertex => loop_ask::has_vertex(h, positions, normals, classes, p).map(answered),
+        Question::Vertex => loop_ask::has_vertex(h, positions, normals, classes, p).map(yes_or_no),
         Question::OnEdge => {
-            loop_ask::any_edge_contains_position(h, positions, normals, classes, p).map(answered)
+            loop_ask::any_edge_contains_position(h, positions, normals, classes, p).map(yes_or_no)
         }
-        Question::Convex => loop_ask::is_convex(h, positions, normals, classes).map(answered),
-        Question::Simple => loop_ask::is_simple(h, positions, normals, classes).map(answered),
+        Question::Convex => loop_ask::is_convex(h, positions, normals, classes).map(yes_or_no),
+        Question::Simple => loop_ask::is_simple(h, positions, normals, classes).map(yes_or_no),
     }
 }
 

@@ -97,7 +97,7 @@ fn built(mode: Mode, list: &[u8], out: &mut [u8]) -> Result<u32, Refusal>
 pub fn build(mode: Mode, list: &[u8], out: &mut [u8]) -> u32
     ensures { outcome result out.new ≡ Bu.build_outcome mode list.now out.old }
 {
-    built(mode, list, out).unwrap_or_else(bytes_loop::refusal)
+    built(mode, list, out).unwrap_or_else(bytes_loop::refused)
 }
 
 // `build_floats` before it is told: the header's room is judged ahead of any writing.
@@ -134,6 +134,6 @@ pub fn build_floats(
         ≡ Bu.floats_outcome mode list.now header.old positions.old normals.old classes.old }
 {
     built_floats(mode, list, header, positions, normals, classes).unwrap_or_else(
-        bytes_loop::refusal,
+        bytes_loop::refused,
     )
 }

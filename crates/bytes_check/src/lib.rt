@@ -10,7 +10,7 @@ ghost use Rattle.bytes_ask.specs.Ask as As;
 ghost use Rattle.loop_triangles.specs.Triangles.{accepts_answer};
 ghost use Rattle.bytes_check.specs.Checking as Ch;
 
-use bytes_ask::{answered, tell};
+use bytes_ask::answered;
 use judge::Refusal;
 
 // What keeps a list of triangles from being checked against a loop, both in bytes: that it is not in sixes is 1, ahead of a count above 512.
@@ -67,5 +67,5 @@ fn accepted(s: &[u8], list: &[u8]) -> Result<bool, Refusal>
 pub fn accepts(s: &[u8], list: &[u8]) -> u32
     ensures { result ≡ As.number_of (Ch.accepts_told s.now list.now) }
 {
-    tell(accepted(s, list).map(answered))
+    answered(accepted(s, list))
 }

@@ -119,7 +119,7 @@ pub fn full_positions(out: &mut [f64]) -> u32
     ensures { outcome result out.new ≡ Cu.full_positions_outcome out.old }
 {
     if out.len() < 36 {
-        return bytes_loop::refusal(Refusal::NoRoom);
+        return bytes_loop::refused(Refusal::NoRoom);
     }
     icosahedron::write_positions(out);
     12

@@ -8,7 +8,7 @@ ghost use Rattle.bytes_loop.specs.Outcome.{outcome};
 ghost use Rattle.bytes_loop.specs.Layout as F;
 ghost use Rattle.bytes_distances.specs.Distances as Far;
 
-use bytes_loop::refusal;
+use bytes_loop::refused;
 use chord_length::ChordLength;
 use judge::Refusal;
 use loop_header::Header;
@@ -23,7 +23,7 @@ fn leave_chord(out: &mut [u8], c: ChordLength) -> u32
     ensures { outcome result out.new ≡ Far.leave (chord c) out.old }
 {
     if out.len() < CHORD {
-        return refusal(Refusal::NoRoom);
+        return refused(Refusal::NoRoom);
     }
     wire::put_float(out, 0, c.0);
     0
@@ -34,7 +34,7 @@ fn leave(out: &mut [u8], d: Result<ChordLength, Refusal>) -> u32
     ensures { outcome result out.new ≡ Far.leave (told_distance d) out.old }
 {
     match d {
-        Err(r) => refusal(r),
+        Err(r) => refused(r),
         Ok(c) => leave_chord(out, c),
     }
 }
@@ -45,7 +45,7 @@ fn leave_float_chord(out: &mut [f64], c: ChordLength) -> u32
     ensures { outcome result out.new ≡ Far.leave_float (chord c) out.old }
 {
     if out.len() < 1 {
-        return refusal(Refusal::NoRoom);
+        return refused(Refusal::NoRoom);
     }
     out[0] = c.0;
     0
@@ -56,7 +56,7 @@ fn leave_float(out: &mut [f64], d: Result<ChordLength, Refusal>) -> u32
     ensures { outcome result out.new ≡ Far.leave_float (told_distance d) out.old }
 {
     match d {
-        Err(r) => refusal(r),
+        Err(r) => refused(r),
         Ok(c) => leave_float_chord(out, c),
     }
 }

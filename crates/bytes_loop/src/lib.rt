@@ -17,11 +17,18 @@ use vec3::Vec3;
 // How many bytes a header has; a loop's positions begin after it.
 pub const HEADER: usize = 88;
 
-// A refusal as it is answered.
-pub fn refusal(r: Refusal) -> u32
+// A refusal's number as it is answered.
+pub fn refusal(f: u8) -> u32
+    ensures { result ≡ refusal_of f }
+{
+    65536 + f as u32
+}
+
+// The same of what something handed in is refused for.
+pub fn refused(r: Refusal) -> u32
     ensures { result ≡ refusal_of (number r) }
 {
-    65536 + r.number() as u32
+    refusal(r.number())
 }
 
 // A state's byte, as C reads it. No `From`: it would stand in loop_header, which knows of no bytes, and a byte above 2 is a ring only until it is judged.

@@ -49,7 +49,7 @@ fn compare(
         }
         Comparison::Equivalence => {
             loop_ask::is_equivalent(h, positions, normals, classes, o, others, theirs, codes).map(
-                bytes_ask::answered,
+                bytes_ask::yes_or_no,
             )
         }
     }

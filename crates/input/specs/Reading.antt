@@ -1,10 +1,15 @@
 -- What is read from standard input. SCOPE 31: a failed read is not the end of the input. Definitions only.
-use Rattle.std.specs.Prelude.{ℕ, ◌≤◌, ◌≡◌, Bool, false, List, eqb, length, take, Result, Ok, Err}
+use Rattle.std.specs.Prelude.{ℕ, ◌≤◌, ◌≡◌, Bool, false, List, eqb, length, take, Result, Ok, Err, ℤ, pos, negsuc}
 
--- what one read into room for n bytes may answer: an error, or how many bytes it moved, at most n
-abbrev pub Moved : {E : Type 0} → ℕ → Result ℕ E → Type 0
-Moved n (Ok k) = k ≤ n
-Moved n (Err e) = Unit
+-- what one read into room for n bytes may answer: -1, or how many bytes it moved, at most n
+abbrev pub Moved : ℕ → ℤ → Type 0
+Moved n (pos k) = k ≤ n
+Moved n (negsuc k) = k ≡ 0
+
+-- a reader's answer as the C library gives it: how many bytes it moved, or -1 for an error
+abbrev pub moved_of : {E : Type 0} → Result ℕ E → ℤ
+moved_of (Ok k) = pos k
+moved_of (Err e) = negsuc 0
 
 -- how many bytes one read put, by its answer
 abbrev pub count_of : {E : Type 0} → Result ℕ E → ℕ

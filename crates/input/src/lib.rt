@@ -10,7 +10,7 @@ use std::io::Read;
 // One call of the reader, into the buffer from the offset `done` on: how many bytes it moved.
 fn read_from<S: Read>(from: &mut S, buf: &mut [u8], done: usize) -> io::Result<usize>
     requires { done ≤ length buf.old }
-    ensures { R.Moved (length buf.old - done) result }
+    ensures { R.Moved (length buf.old - done) (R.moved_of result) }
 {
     from.read(&mut buf[done..])
 }

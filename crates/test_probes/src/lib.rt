@@ -7,7 +7,7 @@ ghost use Rattle.bytes_loop.specs.Outcome.{outcome};
 ghost use Rattle.test_probes.specs.Leaves as Leaves;
 
 use base::Side;
-use bytes_loop::refusal;
+use bytes_loop::refused;
 use cap::Cap;
 use chord_length::ChordLength;
 use judge::Refusal;
@@ -151,10 +151,10 @@ pub extern "C" fn leaf_case(op: u32, input: &[f64]) -> u32
     ensures { result ≡ Leaves.leaf_case op input.now }
 {
     if input.len() < 9 {
-        return refusal(Refusal::Shape);
+        return refused(Refusal::Shape);
     }
     if 10 <= op {
-        return refusal(Refusal::Shape);
+        return refused(Refusal::Shape);
     }
     case(
         op,
@@ -171,10 +171,10 @@ pub extern "C" fn leaf_cap(list: &[f64], out: &mut [f64]) -> u32
     ensures { outcome result out.new ≡ Leaves.leaf_cap list.now out.old }
 {
     if list.len() % 3 != 0 {
-        return refusal(Refusal::Shape);
+        return refused(Refusal::Shape);
     }
     if out.len() < 4 {
-        return refusal(Refusal::NoRoom);
+        return refused(Refusal::NoRoom);
     }
     let c = cap::bounding_cap(list, list.len() / 3);
     vec3::put(out, 0, c.centre);

@@ -29,10 +29,17 @@ pub fn tell(answer: Result<u32, Refusal>) -> u32
 }
 
 // A place's number, as C reads it, is its index among the variants.
-fn placed(p: Place) -> u32
+fn place_number(p: Place) -> u32
     ensures { result ≡ An.place_code p }
 {
     p as u32
+}
+
+// A place, or what it is refused for, as a caller is told it.
+pub fn placed(p: Result<Place, Refusal>) -> u32
+    ensures { result ≡ As.number_of (An.told_placed p) }
+{
+    tell(p.map(place_number))
 }
 
 // A yes is 1, and a no is 0.
@@ -70,7 +77,7 @@ fn query(
 {
     match q {
         Question::Place => {
-            loop_ask::contains_position(h, positions, normals, classes, p).map(placed)
+            loop_ask::contains_position(h, positions, normals, classes, p).map(place_number)
         }
         Question::Vertex => loop_ask::has_vertex(h, positions, normals, classes, p).map(yes_or_no),
         Question::OnEdge => {
@@ -193,5 +200,5 @@ fn placed_by(
 pub fn place(header: &[u8], positions: &[f64], normals: &[f64], classes: &[u8], p: Vec3) -> u32
     ensures { result ≡ As.number_of (As.place_told header.now positions.now normals.now classes.now p) }
 {
-    tell(placed_by(header, positions, normals, classes, p).map(placed))
+    placed(placed_by(header, positions, normals, classes, p))
 }
